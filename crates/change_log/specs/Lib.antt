@@ -1,4 +1,4 @@
-pub mod Contents
-pub mod Items
-pub mod Logs
-pub mod Moments
+pub mod LogContents
+pub mod LogHistories
+pub mod LogItems
+pub mod LogStates

@@ -1,10 +1,11 @@
 // The trait of logs of changes.
 ghost use Rattle.std.specs.Prelude.{◌≡◌, ◌⊎◌, ◌≤◌, ◌<◌, ◌^◌, ◌-◌, ◌++◌, ◌∷◌, [], length};
 ghost use Rattle.std.specs.Prelude.{true, false, IfOk, OnOk, OnErr, IsErrOf};
-ghost use Rattle.change_log.specs.Contents.{next_number, snapshot_of, with_change};
+ghost use Rattle.change_log.specs.LogContents.{next_number, snapshot_of, with_change};
 ghost use Rattle.change_log.specs.declared.limits.TheConstants.{MAX_CONTENT_BYTES};
-ghost use Rattle.change_log.specs.Logs.{LogState, HasCause, NotAppended, kept};
-ghost use Rattle.change_log.specs.Moments.{holding, FindsOldOr, MayFind, Passes};
+ghost use Rattle.change_log.specs.LogStates.{LogState, HasCause, FailsToAppend, kept_contents};
+ghost use Rattle.change_log.specs.LogHistories.{settled_moment, IsFoundBeforeOr, MayBeFound};
+ghost use Rattle.change_log.specs.LogHistories.{HoldsAtEachMoment};
 ghost use Rattle.change_log.specs.declared.change_log.AppendFault.{AppendFault};
 ghost use Rattle.change_log.specs.declared.change_log.SnapshotFault.{SnapshotFault};
 
@@ -62,7 +63,7 @@ pub trait ChangeLog {
     /// The number that the next change gets. Does not allocate.
     fn next_number(&self) -> u64
         requires { sound self.now }
-        ensures exact { result ≡ next_number (kept (state self.now)) };
+        ensures exact { result ≡ next_number (kept_contents (state self.now)) };
 
     /// Whether a sync or a rename has failed, so that every later call is refused.
     fn is_stopped(&self) -> bool
@@ -77,11 +78,12 @@ pub trait ChangeLog {
         requires is_sound { sound self.old }
         requires begun { (state self.old).is_begun ≡ true }
         requires short { length change.now ≤ MAX_CONTENT_BYTES }
-        requires numbers_left { next_number (kept (state self.old)) < 2 ^ 64 - 1 }
-        ensures numbered { IfOk result (λ number. number ≡ next_number (kept (state self.old))) }
+        requires numbers_left { next_number (kept_contents (state self.old)) < 2 ^ 64 - 1 }
+        ensures numbered { IfOk result
+            (λ number. number ≡ next_number (kept_contents (state self.old))) }
         ensures appended { OnOk result ((state self.new).history.now
-            ≡ holding (with_change change.now (kept (state self.old)))) }
-        ensures not_appended { OnErr result (NotAppended change.now
+            ≡ settled_moment (with_change change.now (kept_contents (state self.old)))) }
+        ensures not_appended { OnErr result (FailsToAppend change.now
             (state self.old).history.now (state self.new).history.now) }
         ensures no_memory { IsErrOf result AppendFault.NoMemory → self.new ≡ self.old }
         ensures cause { IsErrOf result AppendFault.Failed
@@ -90,8 +92,9 @@ pub trait ChangeLog {
         ensures refused { (state self.old).is_stopped ≡ true
             → IsErrOf result AppendFault.Failed × (self.new ≡ self.old) }
         // A crash at any moment of the call leaves what a restart found before, or the change.
-        ensures any_moment { Passes
-            (FindsOldOr (state self.old).history (with_change change.now (kept (state self.old))))
+        ensures any_moment { HoldsAtEachMoment
+            (IsFoundBeforeOr (state self.old).history
+            (with_change change.now (kept_contents (state self.old))))
             (state self.old).history (state self.new).history }
         ensures same_draft { (state self.new).history.draft ≡ (state self.old).history.draft }
         ensures has_same_draft { (state self.new).has_draft ≡ (state self.old).has_draft }
@@ -108,7 +111,7 @@ pub trait ChangeLog {
         ensures draft_empty { OnOk result ((state self.new).history.draft ≡ []) }
         ensures cause { OnErr result (HasCause (state self.old) (state self.new)) }
         ensures same_log { (state self.new).history.now ≡ (state self.old).history.now }
-        ensures any_moment { Passes (MayFind (state self.old).history.now)
+        ensures any_moment { HoldsAtEachMoment (MayBeFound (state self.old).history.now)
             (state self.old).history (state self.new).history }
         ensures same_phase { (state self.new).is_begun ≡ (state self.old).is_begun }
         ensures still_sound { sound self.new };
@@ -128,7 +131,7 @@ pub trait ChangeLog {
         ensures cause { IsErrOf result SnapshotFault.NoMemory
             ⊎ OnErr result (HasCause (state self.old) (state self.new)) }
         ensures same_log { (state self.new).history.now ≡ (state self.old).history.now }
-        ensures any_moment { Passes (MayFind (state self.old).history.now)
+        ensures any_moment { HoldsAtEachMoment (MayBeFound (state self.old).history.now)
             (state self.old).history (state self.new).history }
         ensures same_phase { (state self.new).is_begun ≡ (state self.old).is_begun }
         ensures still_sound { sound self.new };
@@ -142,9 +145,9 @@ pub trait ChangeLog {
     fn finish_snapshot(&mut self, alloc: Global, first: u64) -> Result<(), SnapshotFault>
         requires is_sound { sound self.old }
         requires draft_begun { (state self.old).has_draft ≡ true }
-        requires number_rises { next_number (kept (state self.old)) ≤ first }
+        requires number_rises { next_number (kept_contents (state self.old)) ≤ first }
         ensures replaced { OnOk result ((state self.new).history.now
-            ≡ holding (snapshot_of (state self.old).history.draft first)) }
+            ≡ settled_moment (snapshot_of (state self.old).history.draft first)) }
         ensures begun { OnOk result ((state self.new).is_begun ≡ true) }
         ensures no_memory { IsErrOf result SnapshotFault.NoMemory → self.new ≡ self.old }
         ensures not_written { IsErrOf result SnapshotFault.NotWritten
@@ -154,8 +157,8 @@ pub trait ChangeLog {
         ensures cause { IsErrOf result SnapshotFault.NoMemory
             ⊎ OnErr result (HasCause (state self.old) (state self.new)) }
         // A crash at any moment of the call leaves what a restart found before, or the snapshot.
-        ensures any_moment { Passes
-            (FindsOldOr (state self.old).history
+        ensures any_moment { HoldsAtEachMoment
+            (IsFoundBeforeOr (state self.old).history
             (snapshot_of (state self.old).history.draft first))
             (state self.old).history (state self.new).history }
         ensures same_phase { OnErr result ((state self.new).is_begun ≡ (state self.old).is_begun) }

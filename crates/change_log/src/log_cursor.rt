@@ -1,6 +1,6 @@
 // Reading a log from the start.
 ghost use Rattle.std.specs.Prelude.{◌≡◌, ◌∷◌, [], List, IfOk, OnErr};
-ghost use Rattle.change_log.specs.Items.{Item, IsRead};
+ghost use Rattle.change_log.specs.LogItems.{Item, ReadsNextItem};
 
 use std::alloc::AllocError;
 
@@ -29,7 +29,7 @@ pub trait LogCursor {
     /// # Errors
     /// When out of memory; then the same item is read again.
     fn read(&mut self, bytes: &mut Vec<u8>) -> Result<LogItem, AllocError>
-        ensures exact { IfOk result (λ item. IsRead item bytes.new.items (left self.old)
+        ensures exact { IfOk result (λ item. ReadsNextItem item bytes.new.items (left self.old)
             (left self.new)) }
         ensures err_unchanged { OnErr result (self.new ≡ self.old) };
 }

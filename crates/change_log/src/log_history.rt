@@ -2,10 +2,12 @@
 // run time.
 ghost use Rattle.std.specs.Prelude.{◌≡◌, ◌++◌, ◌∷◌, []};
 ghost use Rattle.std.specs.Borrow.{ftrue};
-ghost use Rattle.change_log.specs.Contents.{no_contents, snapshot_of, with_change, with_part};
-ghost use Rattle.change_log.specs.Moments.{History, opened_on, with_appended, with_draft};
-ghost use Rattle.change_log.specs.Moments.{with_instead, with_none_open, with_open};
-ghost use Rattle.change_log.specs.Moments.{with_snapshot, with_step};
+ghost use Rattle.change_log.specs.LogContents.{no_contents, snapshot_of, with_change, with_part};
+ghost use Rattle.change_log.specs.LogHistories.{History, history_from, with_appended_change};
+ghost use Rattle.change_log.specs.LogHistories.{with_draft};
+ghost use Rattle.change_log.specs.LogHistories.{with_possible_snapshot, without_open_change};
+ghost use Rattle.change_log.specs.LogHistories.{with_open_change};
+ghost use Rattle.change_log.specs.LogHistories.{with_snapshot, with_step};
 
 use std::marker::Model;
 
@@ -23,44 +25,45 @@ impl Model for LogHistory {
 impl LogHistory {
     /// A log in which nothing was ever written.
     pub fn new() -> LogHistory
-        ensures exact { result.log ≡ opened_on no_contents }
+        ensures exact { result.log ≡ history_from no_contents }
     {
         LogHistory {}
     }
 
     /// A part of the snapshot was found when the log was opened.
-    pub fn find_part(&mut self, _bytes: &[u8])
-        ensures exact { self.new.log ≡ opened_on (with_part _bytes.now self.old.log.now.kept) }
+    pub fn record_found_part(&mut self, _bytes: &[u8])
+        ensures exact { self.new.log ≡ history_from (with_part _bytes.now self.old.log.now.kept) }
     {}
 
     /// The end of the snapshot was found when the log was opened.
-    pub fn find_first(&mut self, _number: u64)
-        ensures exact { self.new.log ≡ opened_on (snapshot_of self.old.log.now.kept.parts _number) }
+    pub fn record_found_first(&mut self, _number: u64)
+        ensures exact { self.new.log
+            ≡ history_from (snapshot_of self.old.log.now.kept.parts _number) }
     {}
 
     /// A change was found when the log was opened.
-    pub fn find_change(&mut self, _bytes: &[u8])
-        ensures exact { self.new.log ≡ opened_on (with_change _bytes.now self.old.log.now.kept) }
+    pub fn record_found_change(&mut self, _bytes: &[u8])
+        ensures exact { self.new.log ≡ history_from (with_change _bytes.now self.old.log.now.kept) }
     {}
 
     /// A call that leaves the log as it was.
-    pub fn record_nothing(&mut self)
+    pub fn record_no_change(&mut self)
         ensures exact { self.new.log ≡ with_step self.old.log (λ m. m) }
     {}
 
     /// The change may be there from now on.
-    pub fn record_open(&mut self, _bytes: &[u8])
-        ensures exact { self.new.log ≡ with_step self.old.log (with_open _bytes.now) }
+    pub fn record_open_change(&mut self, _bytes: &[u8])
+        ensures exact { self.new.log ≡ with_step self.old.log (with_open_change _bytes.now) }
     {}
 
     /// The change whose append failed is taken back.
-    pub fn record_taken_back(&mut self)
-        ensures exact { self.new.log ≡ with_step self.old.log with_none_open }
+    pub fn record_no_open_change(&mut self)
+        ensures exact { self.new.log ≡ with_step self.old.log without_open_change }
     {}
 
     /// The change is there.
-    pub fn record_appended(&mut self, _bytes: &[u8])
-        ensures exact { self.new.log ≡ with_step self.old.log (with_appended _bytes.now) }
+    pub fn record_appended_change(&mut self, _bytes: &[u8])
+        ensures exact { self.new.log ≡ with_step self.old.log (with_appended_change _bytes.now) }
     {}
 
     /// A snapshot was begun.
@@ -75,8 +78,8 @@ impl LogHistory {
     {}
 
     /// The snapshot may be there instead from now on.
-    pub fn record_instead(&mut self, _number: u64)
-        ensures exact { self.new.log ≡ with_instead _number self.old.log }
+    pub fn record_possible_snapshot(&mut self, _number: u64)
+        ensures exact { self.new.log ≡ with_possible_snapshot _number self.old.log }
     {}
 
     /// The snapshot is there, and nothing else.

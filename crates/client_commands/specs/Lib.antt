@@ -1,8 +1,8 @@
-pub mod Endings
-pub mod Follows
-pub mod Inputs
-pub mod Lines
-pub mod Outputs
-pub mod Puts
-pub mod Words
+pub mod CommandEnds
+pub mod FaultMessages
+pub mod FollowCommand
+pub mod InputTexts
+pub mod OutputBytes
+pub mod OutputLines
+pub mod PutCommand
 pub mod inner

@@ -1,4 +1,4 @@
 -- What private functions and proofs use. No clause of a public call needs it.
-pub mod Endings
-pub mod Follows
-pub mod Inputs
+pub mod FollowRounds
+pub mod InputBuffers
+pub mod OutputEnds

@@ -1,5 +1,5 @@
 // How a command of the client ends.
-ghost use Rattle.client_commands.specs.inner.Endings.{Writes};
+ghost use Rattle.client_commands.specs.inner.OutputEnds.{WritesOutput};
 
 use client_follower::FollowerFault;
 use xcap_io::{Failed, Line, Sink, write_all};
@@ -22,8 +22,8 @@ pub enum CommandEnd {
 }
 
 // Writes the output of a command, or the last part of it.
-pub(crate) fn write_out<O: Sink>(output: &mut O, bytes: &[u8]) -> CommandEnd
-    ensures writes_bytes { Writes bytes.now result (O.state output.old) (O.state output.new) }
+pub(crate) fn write_output<O: Sink>(output: &mut O, bytes: &[u8]) -> CommandEnd
+    ensures writes_bytes { WritesOutput bytes.now result (O.state output.old) (O.state output.new) }
 {
     match write_all(output, bytes) {
         Ok(()) => CommandEnd::Done,

@@ -1,7 +1,7 @@
 // The commands that make one call and read no input.
-ghost use Rattle.client_commands.specs.Endings.{MakesOneCall, delete_call, fetch_call};
+ghost use Rattle.client_commands.specs.CommandEnds.{MakesOneCall, delete_call, fetch_call};
 
-use crate::command_end::{CommandEnd, write_out};
+use crate::command_end::{CommandEnd, write_output};
 use crate::output_lines::status_line;
 use crate::requester::Requester;
 use client_follower::FollowerFault;
@@ -29,7 +29,7 @@ pub fn fetch_at<C: Peer, O: Sink>(
         requester.user(),
         path.as_str(),
     ) {
-        Ok(response) => write_out(output, response.body.as_slice()),
+        Ok(response) => write_output(output, response.body.as_slice()),
         Err(fault) => CommandEnd::Failed(FollowerFault::from(fault)),
     }
 }
@@ -57,7 +57,7 @@ pub fn delete_at<C: Peer, O: Sink>(
         Err(fault) => return CommandEnd::Failed(FollowerFault::from(fault)),
     };
     match status_line(alloc, response.status) {
-        Ok(line) => write_out(output, line.as_bytes()),
+        Ok(line) => write_output(output, line.as_bytes()),
         Err(AllocError) => CommandEnd::OutOfMemory,
     }
 }

@@ -1,10 +1,11 @@
 // The command that follows a document.
 ghost use Rattle.std.specs.Prelude.{None};
-ghost use Rattle.patch_apply.specs.Views.{stored_in};
-ghost use Rattle.client_commands.specs.Follows.{FollowsOn, Follows, WritesCopy};
-ghost use Rattle.client_commands.specs.inner.Follows.{MakesRound};
+ghost use Rattle.patch_apply.specs.Views.{replica_view};
+ghost use Rattle.client_commands.specs.FollowCommand.{FollowsRounds, FollowsDocument};
+ghost use Rattle.client_commands.specs.FollowCommand.{WritesReplica};
+ghost use Rattle.client_commands.specs.inner.FollowRounds.{MakesRound};
 
-use crate::command_end::{CommandEnd, write_out};
+use crate::command_end::{CommandEnd, write_output};
 use crate::output_lines::tag_line;
 use crate::requester::Requester;
 use client_follower::Follower;
@@ -32,35 +33,35 @@ fn make_round<C: Peer, O: Sink>(
         Ok(line) => line,
         Err(AllocError) => return Some(CommandEnd::OutOfMemory),
     };
-    match write_out(output, line.as_bytes()) {
+    match write_output(output, line.as_bytes()) {
         CommandEnd::Done => None,
         ended => Some(ended),
     }
 }
 
 // Writes the document, if the replica has one.
-fn write_copy<O: Sink>(alloc: Global, replica: &Replica, output: &mut O) -> CommandEnd
-    ensures writes_copy { WritesCopy (stored_in replica.now.held) result (O.state output.old)
+fn write_replica<O: Sink>(alloc: Global, replica: &Replica, output: &mut O) -> CommandEnd
+    ensures writes_copy { WritesReplica (replica_view replica.now.held) result (O.state output.old)
         (O.state output.new) }
 {
     let Some(held) = &replica.held else {
         return CommandEnd::Done;
     };
     match print_document(alloc, &held.root) {
-        Ok(text) => write_out(output, text.as_slice()),
+        Ok(text) => write_output(output, text.as_slice()),
         Err(AllocError) => CommandEnd::OutOfMemory,
     }
 }
 
 // Makes `rounds` rounds, and then writes the document.
-fn follow_on<C: Peer, O: Sink>(
+fn follow_rounds<C: Peer, O: Sink>(
     alloc: Global,
     follower: &mut Follower,
     rounds: u64,
     peer: &mut C,
     output: &mut O,
 ) -> CommandEnd
-    ensures follows_on { FollowsOn rounds follower.old result
+    ensures follows_on { FollowsRounds rounds follower.old result
         (record { peer = C.state peer.old; output = O.state output.old })
         (record { peer = C.state peer.new; output = O.state output.new }) }
 {
@@ -71,7 +72,7 @@ fn follow_on<C: Peer, O: Sink>(
         }
         made += 1;
     }
-    write_copy(alloc, follower.replica(), output)
+    write_replica(alloc, follower.replica(), output)
 }
 
 /// Fetches a document and follows it for `rounds` rounds. After each round the replica's etag is
@@ -85,13 +86,13 @@ pub fn follow<C: Peer, O: Sink>(
     peer: &mut C,
     output: &mut O,
 ) -> CommandEnd
-    ensures follows_document { Follows
+    ensures follows_document { FollowsDocument
         (record { requester = requester.now; doc = doc.now; rounds = rounds }) result
         (record { peer = C.state peer.old; output = O.state output.old })
         (record { peer = C.state peer.new; output = O.state output.new }) }
 {
     match Follower::start(alloc, peer, &requester.root, requester.user(), doc) {
-        Ok(mut follower) => follow_on(alloc, &mut follower, rounds, peer, output),
+        Ok(mut follower) => follow_rounds(alloc, &mut follower, rounds, peer, output),
         Err(fault) => CommandEnd::Failed(fault),
     }
 }

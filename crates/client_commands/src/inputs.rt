@@ -1,8 +1,8 @@
 // The input, read to its end.
 ghost use Rattle.std.specs.Prelude.{◌≡◌, ◌+◌, ◌<◌, ◌^◌, length, take};
-ghost use Rattle.xcap_io.specs.Causes.{OnlyReads};
-ghost use Rattle.client_commands.specs.Inputs.{ReadsText};
-ghost use Rattle.client_commands.specs.inner.Inputs.{Fills};
+ghost use Rattle.xcap_io.specs.StreamStates.{OnlyReads};
+ghost use Rattle.client_commands.specs.InputTexts.{ReadsText};
+ghost use Rattle.client_commands.specs.inner.InputBuffers.{FillsBuffer};
 ghost use Rattle.client_commands.specs.declared.inputs.InputFault.TheVariants as faults;
 
 use std::alloc::{AllocError, Global};
@@ -37,7 +37,7 @@ impl From<Failed> for InputFault {
 
 // Reads until the buffer is full or the input ends, and returns the number of bytes that came.
 fn fill<I: Source>(input: &mut I, buffer: &mut [u8]) -> Result<usize, Failed>
-    ensures fills_front { Fills result buffer.new (I.state input.old).inward
+    ensures fills_front { FillsBuffer result buffer.new (I.state input.old).inward
         (I.state input.new).inward }
     ensures only_reads { OnlyReads (I.state input.old) (I.state input.new) result }
 {
@@ -53,7 +53,11 @@ fn fill<I: Source>(input: &mut I, buffer: &mut [u8]) -> Result<usize, Failed>
 }
 
 // Reads into a buffer of `limit + 1` bytes, and returns the length of the text.
-fn text_in<I: Source>(input: &mut I, buffer: &mut [u8], limit: usize) -> Result<usize, InputFault>
+fn read_text_into<I: Source>(
+    input: &mut I,
+    buffer: &mut [u8],
+    limit: usize,
+) -> Result<usize, InputFault>
     requires { length buffer.old ≡ limit + 1 }
     ensures reads_text { ReadsText (λ n. take n buffer.new) limit result (I.state input.old)
         (I.state input.new) }
@@ -81,7 +85,7 @@ pub fn read_text<I: Source>(
         (I.state input.new) }
 {
     let mut buffer = vec![in alloc; 0; limit + 1]?;
-    let length = text_in(input, &mut buffer, limit)?;
+    let length = read_text_into(input, &mut buffer, limit)?;
     buffer.truncate(length);
     Ok(buffer)
 }

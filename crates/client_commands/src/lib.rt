@@ -1,8 +1,8 @@
 //! The client's commands: the calls that they make, the text that they read, and what they write.
 //! Promises upward that a text is all that the input gave to its end (`GaveText`); that a command
 //! makes its calls and no others, and writes exactly the output that the responses determine
-//! (`MakesOneCall`, `Puts`, `Follows`); and that each way to end has its cause, and its message
-//! (`status_of`, `words_of`).
+//! (`MakesOneCall`, `PutsFromInput`, `FollowsDocument`); and that each way to end has its cause,
+//! and its message (`status_of`, `words_of`).
 //! The commands are the project's own; they follow RFC 4825, section 7, and RFC 5875.
 #![tactic(auto)]
 

@@ -1,7 +1,8 @@
 // The status that a program ends with where a call of the client failed, and its message.
 ghost use Rattle.std.specs.Prelude.{◌≡◌, IfOk, string_bytes};
-ghost use Rattle.client_commands.specs.Words.{apply_words, fault_words, response_words};
-ghost use Rattle.client_commands.specs.Words.{status_of_fault, tag_words};
+ghost use Rattle.client_commands.specs.FaultMessages.{apply_message, fault_message};
+ghost use Rattle.client_commands.specs.FaultMessages.{response_message};
+ghost use Rattle.client_commands.specs.FaultMessages.{status_of_fault, tag_text};
 
 use client_follower::FollowerFault;
 use patch_apply::ApplyFault;
@@ -36,8 +37,8 @@ pub fn status_of(fault: &FollowerFault) -> u8
 }
 
 // Why there is no response.
-fn response_words(alloc: Global, fault: &ResponseFault) -> Result<String, AllocError>
-    ensures ok { IfOk result (λ words. string_bytes words ≡ response_words fault.now) }
+fn response_message(alloc: Global, fault: &ResponseFault) -> Result<String, AllocError>
+    ensures ok { IfOk result (λ words. string_bytes words ≡ response_message fault.now) }
 {
     match fault {
         ResponseFault::ReadFailed => String::from_str(alloc, "network failed\n"),
@@ -51,9 +52,9 @@ fn response_words(alloc: Global, fault: &ResponseFault) -> Result<String, AllocE
 }
 
 // Why a call gave no successful response.
-fn client_words(alloc: Global, fault: &ClientFault) -> Result<String, AllocError>
+fn client_message(alloc: Global, fault: &ClientFault) -> Result<String, AllocError>
     ensures ok { IfOk result
-        (λ words. string_bytes words ≡ fault_words (FollowerFault.Client fault.now)) }
+        (λ words. string_bytes words ≡ fault_message (FollowerFault.Client fault.now)) }
 {
     match fault {
         ClientFault::PeerFault => String::from_str(alloc, "network failed\n"),
@@ -62,13 +63,13 @@ fn client_words(alloc: Global, fault: &ClientFault) -> Result<String, AllocError
         ClientFault::Refused(status, Some(name)) => {
             format!(in alloc; "refused {status} {}\n", name.as_str())
         }
-        ClientFault::BadResponse(fault) => response_words(alloc, fault),
+        ClientFault::BadResponse(fault) => response_message(alloc, fault),
     }
 }
 
 // An etag, or a dash.
-fn held_tag(held: &Option<Text>) -> &str
-    ensures exact { result.now ≡ tag_words held.now }
+fn tag_or_dash(held: &Option<Text>) -> &str
+    ensures exact { result.now ≡ tag_text held.now }
 {
     match held {
         Some(tag) => tag.as_str(),
@@ -77,15 +78,15 @@ fn held_tag(held: &Option<Text>) -> &str
 }
 
 // Why a diff document can't be applied.
-fn apply_words(alloc: Global, fault: &ApplyFault) -> Result<String, AllocError>
-    ensures ok { IfOk result (λ words. string_bytes words ≡ apply_words fault.now) }
+fn apply_message(alloc: Global, fault: &ApplyFault) -> Result<String, AllocError>
+    ensures ok { IfOk result (λ words. string_bytes words ≡ apply_message fault.now) }
 {
     match fault {
         ApplyFault::WrongDocument => String::from_str(alloc, "notice: wrong-document\n"),
         ApplyFault::WrongTag { held, wanted } => {
             format!(in alloc;
                 "notice: wrong-tag {} {}\n",
-                held_tag(held),
+                tag_or_dash(held),
                 wanted.as_str()
             )
         }
@@ -109,14 +110,14 @@ fn apply_words(alloc: Global, fault: &ApplyFault) -> Result<String, AllocError>
 /// # Errors
 /// `NoMemory` when out of memory.
 pub fn words_of(alloc: Global, fault: &FollowerFault) -> Result<String, AllocError>
-    ensures ok { IfOk result (λ words. string_bytes words ≡ fault_words fault.now) }
+    ensures ok { IfOk result (λ words. string_bytes words ≡ fault_message fault.now) }
 {
     match fault {
-        FollowerFault::Client(fault) => client_words(alloc, fault),
+        FollowerFault::Client(fault) => client_message(alloc, fault),
         FollowerFault::BadTag => String::from_str(alloc, "bad response: tag\n"),
         FollowerFault::BadText(_) => String::from_str(alloc, "bad response: text\n"),
         FollowerFault::BadNotice(_) => String::from_str(alloc, "notice: not-a-diff\n"),
-        FollowerFault::Apply(fault) => apply_words(alloc, fault),
+        FollowerFault::Apply(fault) => apply_message(alloc, fault),
         FollowerFault::NoMemory => String::from_str(alloc, "out of memory\n"),
     }
 }

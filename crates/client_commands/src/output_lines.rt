@@ -1,7 +1,7 @@
 // The lines that commands write about responses.
 ghost use Rattle.std.specs.Prelude.{◌≡◌, IfOk, string_bytes};
-ghost use Rattle.client_commands.specs.Lines.{line_of_status, put_line, round_line};
-ghost use Rattle.patch_apply.specs.Views.{stored_in};
+ghost use Rattle.client_commands.specs.OutputLines.{line_of_status, put_line, round_line};
+ghost use Rattle.patch_apply.specs.Views.{replica_view};
 
 use patch_apply::Replica;
 use std::alloc::Global;
@@ -30,7 +30,7 @@ pub(crate) fn put_line(alloc: Global, response: &Response) -> Result<String, NoM
 // The replica's etag, or a dash.
 pub(crate) fn tag_line(alloc: Global, replica: &Replica) -> Result<String, NoMemory>
     ensures exact { IfOk result
-        (λ line. string_bytes line ≡ round_line (stored_in replica.now.held)) }
+        (λ line. string_bytes line ≡ round_line (replica_view replica.now.held)) }
 {
     match &replica.held {
         Some(held) => format!(in alloc; "{}\n", held.tag.as_str()),

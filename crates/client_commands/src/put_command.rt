@@ -1,8 +1,8 @@
 // The command that puts its input.
-ghost use Rattle.client_commands.specs.Endings.{MakesOneCall};
-ghost use Rattle.client_commands.specs.Puts.{Puts, put_call};
+ghost use Rattle.client_commands.specs.CommandEnds.{MakesOneCall};
+ghost use Rattle.client_commands.specs.PutCommand.{PutsFromInput, put_call};
 
-use crate::command_end::{CommandEnd, write_out};
+use crate::command_end::{CommandEnd, write_output};
 use crate::output_lines::put_line;
 use crate::requester::Requester;
 use crate::{InputFault, read_text};
@@ -42,7 +42,7 @@ fn put_text<C: Peer, O: Sink>(
         Err(fault) => return CommandEnd::Failed(FollowerFault::from(fault)),
     };
     match put_line(alloc, &response) {
-        Ok(line) => write_out(output, line.as_bytes()),
+        Ok(line) => write_output(output, line.as_bytes()),
         Err(AllocError) => CommandEnd::OutOfMemory,
     }
 }
@@ -58,7 +58,7 @@ pub fn put_at<C: Peer, I: Source, O: Sink>(
     input: &mut I,
     output: &mut O,
 ) -> CommandEnd
-    ensures puts_input { Puts
+    ensures puts_input { PutsFromInput
         (record { requester = requester.now; path = path.now; media = media.now }) result
         (record {
           peer = C.state peer.old;

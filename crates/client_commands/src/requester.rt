@@ -1,7 +1,7 @@
 // The user who asks, and the root.
 ghost use Rattle.std.specs.Prelude.{◌≡◌, chars, option_map};
 
-use client_follower::borrowed_user;
+use client_follower::user_as_str;
 use xcap_uri::Root;
 use xml_names::Text;
 
@@ -17,6 +17,6 @@ impl Requester {
     pub(crate) fn user(&self) -> Option<&str>
         ensures exact { option_map (λ name. chars name.now) result ≡ self.now.user }
     {
-        borrowed_user(&self.user)
+        user_as_str(&self.user)
     }
 }

@@ -1,9 +1,9 @@
-pub mod Counts
-pub mod Documents
-pub mod Faults
-pub mod Feeds
-pub mod Paths
+pub mod ConnectionCounts
+pub mod FeedPaths
+pub mod FeedResults
+pub mod FetchedDocuments
+pub mod FollowerFaults
+pub mod FollowerStates
 pub mod Rounds
 pub mod Starts
-pub mod States
 pub mod inner

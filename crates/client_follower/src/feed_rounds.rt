@@ -1,11 +1,11 @@
 // The feed of a document's changes, and what a follower does with it.
 ghost use Rattle.std.specs.Prelude.{◌≡◌};
-ghost use Rattle.patch_apply.specs.Views.{stored_in};
-ghost use Rattle.patch_laws.specs.ReplayLaws.{HoldsSound};
-ghost use Rattle.client_follower.specs.Feeds.{TakesFeed, TakesNotice, outcome_of};
-ghost use Rattle.client_follower.specs.inner.Feeds.{KeepsUnlessTold};
+ghost use Rattle.patch_apply.specs.Views.{replica_view};
+ghost use Rattle.patch_laws.specs.ReplayLaws.{HasReplicaTree};
+ghost use Rattle.client_follower.specs.FeedResults.{TakesFeed, TakesNotice, round_outcome};
+ghost use Rattle.client_follower.specs.inner.ReplicaChanges.{KeepsReplicaUnlessDecided};
 
-use crate::fault::FollowerFault;
+use crate::follower_fault::FollowerFault;
 use patch_apply::{Applied, ApplyFault, Replica, apply_notice, read_notice};
 use std::alloc::Global;
 use xcap_client::{ClientFault, Response};
@@ -26,10 +26,10 @@ pub enum Round {
 
 // The outcome of a round by a diff document that was applied: None where the document has to be
 // fetched.
-fn outcome_of(
+fn round_outcome(
     applied: Result<Applied, ReadError<ApplyFault>>,
 ) -> Result<Option<Round>, FollowerFault>
-    ensures exact { result ≡ outcome_of applied }
+    ensures exact { result ≡ round_outcome applied }
 {
     match applied {
         Ok(Applied::Same) => Ok(Some(Round::Same)),
@@ -46,14 +46,14 @@ fn take_notice(
     replica: &mut Replica,
     body: &[u8],
 ) -> Result<Option<Round>, FollowerFault>
-    requires is_sound { HoldsSound (stored_in replica.old.held) }
+    requires is_sound { HasReplicaTree (replica_view replica.old.held) }
     ensures same_document { replica.new.doc ≡ replica.old.doc }
-    ensures takes_diff { TakesNotice replica.old.doc body.now (stored_in replica.old.held)
-        (stored_in replica.new.held) result }
-    ensures stays_sound { HoldsSound (stored_in replica.new.held) }
+    ensures takes_diff { TakesNotice replica.old.doc body.now (replica_view replica.old.held)
+        (replica_view replica.new.held) result }
+    ensures stays_sound { HasReplicaTree (replica_view replica.new.held) }
 {
     let notice = read_notice(alloc, body)?;
-    outcome_of(apply_notice(alloc, replica, &notice))
+    round_outcome(apply_notice(alloc, replica, &notice))
 }
 
 // Handles the result of a GET of the feed. None where the document has to be fetched: the server
@@ -63,13 +63,13 @@ pub(crate) fn take_feed(
     replica: &mut Replica,
     given: Result<Response, ClientFault>,
 ) -> Result<Option<Round>, FollowerFault>
-    requires is_sound { HoldsSound (stored_in replica.old.held) }
+    requires is_sound { HasReplicaTree (replica_view replica.old.held) }
     ensures same_document { replica.new.doc ≡ replica.old.doc }
-    ensures takes_feed { TakesFeed replica.old.doc given (stored_in replica.old.held)
-        (stored_in replica.new.held) result }
-    ensures unchanged_unless_reported { KeepsUnlessTold (stored_in replica.old.held)
-        (stored_in replica.new.held) result }
-    ensures stays_sound { HoldsSound (stored_in replica.new.held) }
+    ensures takes_feed { TakesFeed replica.old.doc given (replica_view replica.old.held)
+        (replica_view replica.new.held) result }
+    ensures unchanged_unless_reported { KeepsReplicaUnlessDecided (replica_view replica.old.held)
+        (replica_view replica.new.held) result }
+    ensures stays_sound { HasReplicaTree (replica_view replica.new.held) }
 {
     match given {
         Ok(response) => take_notice(alloc, replica, response.body.as_slice()),

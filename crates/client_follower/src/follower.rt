@@ -1,14 +1,14 @@
 // A follower of a document.
 ghost use Rattle.std.specs.Prelude.{◌≡◌, OnErr, chars, option_map};
-ghost use Rattle.patch_apply.specs.Views.{stored_in};
-ghost use Rattle.client_follower.specs.Rounds.{AsksFeed, Refetches, Rounds};
-ghost use Rattle.client_follower.specs.inner.Rounds.{KeepsState};
-ghost use Rattle.client_follower.specs.Starts.{Starts};
+ghost use Rattle.patch_apply.specs.Views.{replica_view};
+ghost use Rattle.client_follower.specs.Rounds.{AsksFeed, RefetchesDocument, RunsRound};
+ghost use Rattle.client_follower.specs.inner.FollowerChanges.{KeepsFollowerUnlessDecided};
+ghost use Rattle.client_follower.specs.Starts.{StartsFollower};
 
-use crate::documents::document;
-use crate::fault::FollowerFault;
+use crate::feed_paths::{feed_path, user_as_str};
 use crate::feed_rounds::{Round, take_feed};
-use crate::paths::{borrowed_user, feed_path};
+use crate::fetched_documents::fetch_document;
+use crate::follower_fault::FollowerFault;
 use doc_names::DocId;
 use patch_apply::Replica;
 use std::alloc::Global;
@@ -29,14 +29,14 @@ pub struct Follower {
 }
 
 impl Model for Follower {
-    ghost use Rattle.patch_apply.specs.Views.{stored_in};
-    ghost use Rattle.patch_laws.specs.ReplayLaws.{HoldsSound};
-    ghost use Rattle.client_follower.specs.States.{Following};
+    ghost use Rattle.patch_apply.specs.Views.{replica_view};
+    ghost use Rattle.patch_laws.specs.ReplayLaws.{HasReplicaTree};
+    ghost use Rattle.client_follower.specs.FollowerStates.{FollowerState};
     ghost use Rattle.std.specs.Coded.{codes};
-    ghost use Rattle.xml_tree.specs.inner.Codes.{tree_code};
+    ghost use Rattle.xml_tree.specs.inner.TreeCodes.{tree_code};
     ghost use Rattle.doc_names.specs.contracts.doc_id.DocId as d;
 
-    ghost Value = { Following };
+    ghost Value = { FollowerState };
 
     ghost coded = { Prim.hlevel (codes, tree_code, d.the_row.coded) };
 
@@ -44,10 +44,10 @@ impl Model for Follower {
       root = f.root;
       user = f.user;
       doc = f.replica.doc;
-      held = stored_in f.replica.held;
+      held = replica_view f.replica.held;
     } };
 
-    ghost invariant = { λ f. HoldsSound (stored_in f.replica.held) };
+    ghost invariant = { λ f. HasReplicaTree (replica_view f.replica.held) };
 }
 
 impl Follower {
@@ -65,7 +65,7 @@ impl Follower {
         user: Option<&str>,
         doc: &DocId,
     ) -> Result<Follower, FollowerFault>
-        ensures starts_follower { Starts (record {
+        ensures starts_follower { StartsFollower (record {
           root = root.now;
           user = option_map (λ name. chars name.now) user.entry;
           doc = doc.now;
@@ -74,7 +74,7 @@ impl Follower {
         let kept_root = root.copy(alloc)?;
         let kept_user = copy_user(alloc, user)?;
         let kept_doc = doc.copy(alloc)?;
-        let held = document(alloc, peer, root, user, doc)?;
+        let held = fetch_document(alloc, peer, root, user, doc)?;
         Ok(Follower {
             alloc,
             root: kept_root,
@@ -89,7 +89,7 @@ impl Follower {
     /// The replica. Does not allocate.
     pub fn replica(&self) -> &Replica
         ensures same_doc { result.now.doc ≡ self.now.doc }
-        ensures same_replica { stored_in result.now.held ≡ self.now.held }
+        ensures same_replica { replica_view result.now.held ≡ self.now.held }
     {
         &self.replica
     }
@@ -99,7 +99,7 @@ impl Follower {
     fn ask_feed<C: Peer>(&mut self, peer: &mut C) -> Result<Option<Round>, FollowerFault>
         ensures asks_feed { AsksFeed self.old self.new (C.state peer.old)
             (C.state peer.new) result }
-        ensures unchanged_unless_reported { KeepsState self.old self.new result }
+        ensures unchanged_unless_reported { KeepsFollowerUnlessDecided self.old self.new result }
     {
         let Some(held) = &self.replica.held else {
             return Ok(None);
@@ -109,7 +109,7 @@ impl Follower {
             self.alloc,
             peer,
             &self.root,
-            borrowed_user(&self.user),
+            user_as_str(&self.user),
             path.as_str(),
         );
         take_feed(self.alloc, &mut self.replica, given)
@@ -117,11 +117,11 @@ impl Follower {
 
     // Fetches the document into the replica.
     fn refetch<C: Peer>(&mut self, peer: &mut C) -> Result<Round, FollowerFault>
-        ensures refetches { Refetches self.old self.new (C.state peer.old)
+        ensures refetches { RefetchesDocument self.old self.new (C.state peer.old)
             (C.state peer.new) result }
     {
-        let user = borrowed_user(&self.user);
-        let held = document(self.alloc, peer, &self.root, user, &self.replica.doc)?;
+        let user = user_as_str(&self.user);
+        let held = fetch_document(self.alloc, peer, &self.root, user, &self.replica.doc)?;
         let round = match &held {
             Some(_) => Round::Refetched,
             None => Round::Removed,
@@ -141,7 +141,7 @@ impl Follower {
     /// `BadNotice` and `Apply` where the diff document is refused; `BadTag` and `BadText` as in
     /// `start`. `NoMemory` when out of memory. The follower is then as it was.
     pub fn round<C: Peer>(&mut self, peer: &mut C) -> Result<Round, FollowerFault>
-        ensures follows_document { Rounds self.old self.new (C.state peer.old)
+        ensures follows_document { RunsRound self.old self.new (C.state peer.old)
             (C.state peer.new) result }
         ensures err_unchanged { OnErr result (self.new ≡ self.old) }
     {

@@ -9,26 +9,26 @@ use Rattle.std.specs.List.{list_all}
 use Rattle.std.specs.Str.{IsAscii, IsUtf8, chars}
 use Rattle.doc_names.proofs.AsciiPrints.{auid_letters, part_letters}
 use Rattle.doc_names.proofs.Words.{word_letters}
-use Rattle.doc_names.specs.Escapes.{escaped_part}
-use Rattle.doc_names.specs.Ids.{home_text, id_text}
+use Rattle.doc_names.specs.PercentEscapes.{escape_part}
+use Rattle.doc_names.specs.DocIds.{home_text, id_text}
 use Rattle.doc_names.specs.Usages.{auid_text}
 use Rattle.doc_names.specs.declared.doc_id.DocId.{DocId}
 use Rattle.doc_names.specs.declared.doc_id.Home.{Home}
 use Rattle.doc_names.specs.declared.doc_id.Home.TheVariants.{Global, User}
-use Rattle.xcap_uri.specs.Roots.{IsRoot, is_authority_char, is_segment_char, is_some_of, path_in}
+use Rattle.xcap_uri.specs.Roots.{IsRoot, is_authority_char, is_segment_char, is_one_or_more, path_of_segments}
 
 home_letters : (home : Home) → IsAscii (home_text home)
 home_letters Global = word_letters (codes "/global/") refl
 home_letters (User xui) =
-    IsAscii-append (codes "/users/") (escaped_part xui ++ codes "/") (word_letters (codes "/users/") refl)
-    (IsAscii-append (escaped_part xui) (codes "/") (part_letters xui) (word_letters (codes "/") refl))
+    IsAscii-append (codes "/users/") (escape_part xui ++ codes "/") (word_letters (codes "/users/") refl)
+    (IsAscii-append (escape_part xui) (codes "/") (part_letters xui) (word_letters (codes "/") refl))
 
 -- the octets of a printed id are its characters
 pub id_octets : (doc : DocId) → encode_utf8_all (id_text doc) ≡ id_text doc
 id_octets doc =
     encodes-IsAscii (id_text doc)
-    (IsAscii-append (auid_text doc.auid) (home_text doc.home ++ escaped_part doc.name) (auid_letters doc.auid)
-    (IsAscii-append (home_text doc.home) (escaped_part doc.name) (home_letters doc.home) (part_letters doc.name)))
+    (IsAscii-append (auid_text doc.auid) (home_text doc.home ++ escape_part doc.name) (auid_letters doc.auid)
+    (IsAscii-append (home_text doc.home) (escape_part doc.name) (home_letters doc.home) (part_letters doc.name)))
 
 -- ---- roots
 
@@ -45,15 +45,15 @@ all_so : (p : ℕ → Bool) → ((b : ℕ) → p b ≡ true → is_ascii b ≡ t
 all_so p f [] h = refl
 all_so p f (b ∷ bs) h = let x = and_parts (p b) (list_all p bs) h in and_from (is_ascii b) (list_all is_ascii bs) (f b x.0) (all_so p f bs x.1)
 
-some_so : (p : ℕ → Bool) → ((b : ℕ) → p b ≡ true → is_ascii b ≡ true) → (bs : List ℕ) → is_some_of p bs ≡ true → list_all is_ascii bs ≡ true
+some_so : (p : ℕ → Bool) → ((b : ℕ) → p b ≡ true → is_ascii b ≡ true) → (bs : List ℕ) → is_one_or_more p bs ≡ true → list_all is_ascii bs ≡ true
 some_so p f [] h = refl
 some_so p f (b ∷ bs) h = all_so p f (b ∷ bs) h
 
-path_ascii : (segments : List (List ℕ)) → list_all (is_some_of is_segment_char) segments ≡ true → list_all is_ascii (path_in segments) ≡ true
+path_ascii : (segments : List (List ℕ)) → list_all (is_one_or_more is_segment_char) segments ≡ true → list_all is_ascii (path_of_segments segments) ≡ true
 path_ascii [] h = refl
 path_ascii (s ∷ segments) h =
-    let x = and_parts (is_some_of is_segment_char s) (list_all (is_some_of is_segment_char) segments) h in
-    both (47 ∷ s) (path_in segments) (some_so is_segment_char segment_char s x.0) (path_ascii segments x.1)
+    let x = and_parts (is_one_or_more is_segment_char s) (list_all (is_one_or_more is_segment_char) segments) h in
+    both (47 ∷ s) (path_of_segments segments) (some_so is_segment_char segment_char s x.0) (path_ascii segments x.1)
 
 root_ascii : (root authority path : List ℕ) → IsRoot root authority path → list_all is_ascii root ≡ true
 root_ascii root authority path is =

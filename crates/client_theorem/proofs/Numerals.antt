@@ -12,10 +12,10 @@ use Rattle.std.specs.Str.{IsAscii}
 use Rattle.percent_encoding.specs.Percent.{percent_decode}
 use Rattle.percent_encoding.proofs.PercentLemmas.{percent_decode-nil, percent_decode_not_percent}
 use Rattle.xml_grammar.specs.Digits.{decimal_digits}
-use Rattle.xml_grammar.specs.Rules.{AllPass, number_from}
-use Rattle.xml_tokens.specs.Tokens.{is_other}
+use Rattle.xml_grammar.specs.Rules.{AllPass, number_of_digits}
+use Rattle.xml_tokens.specs.Tokens.{is_different_char}
 use Rattle.xml_names.specs.Limits.{u64_max}
-use Rattle.xcap_uri.specs.Escapes.{StandsFor, has_whole_escapes}
+use Rattle.xcap_uri.specs.Escapes.{DecodesTo, has_complete_escapes}
 use Rattle.xcap_uri.specs.Numerals.{begins_with_digit, numeral_of}
 use Rattle.doc_names.proofs.Words.{word_letters}
 use Rattle.xcap_uri.proofs.Parts.{word_stands}
@@ -29,12 +29,12 @@ on_test false f g = g refl
 -- the octets of a numeral are digits
 pub numeral_digits : (octets : List ℕ) (n : ℕ) → numeral_of octets ≡ Some n → list_all is_ascii_digit octets ≡ true
 numeral_digits octets n is =
-    let small = nat_le (number_from decimal_digits 0 octets) u64_max in
+    let small = nat_le (number_of_digits decimal_digits 0 octets) u64_max in
     on_test (begins_with_digit octets && (list_all is_ascii_digit octets && small))
     (λ h. (and_parts (list_all is_ascii_digit octets) small (and_parts (begins_with_digit octets) (list_all is_ascii_digit octets && small) h).1).0)
     (λ h. let never : None ≡ Some n = rw h at is in absurd cc)
 
-digit_is_other : (stop b : ℕ) → is_ascii_digit stop ≡ false → is_ascii_digit b ≡ true → is_other stop b ≡ true
+digit_is_other : (stop b : ℕ) → is_ascii_digit stop ≡ false → is_ascii_digit b ≡ true → is_different_char stop b ≡ true
 digit_is_other stop b never is = by (b == stop) refl
   where
     by : (t : Bool) → (b == stop) ≡ t → not t ≡ true
@@ -42,7 +42,7 @@ digit_is_other stop b never is = by (b == stop) refl
     by false h = refl
 
 -- digits differ from a character that is no digit
-pub digits_pass : (stop : ℕ) → is_ascii_digit stop ≡ false → (octets : List ℕ) → list_all is_ascii_digit octets ≡ true → AllPass (is_other stop) octets
+pub digits_pass : (stop : ℕ) → is_ascii_digit stop ≡ false → (octets : List ℕ) → list_all is_ascii_digit octets ≡ true → AllPass (is_different_char stop) octets
 digits_pass stop never [] is = tt
 digits_pass stop never (b ∷ bs) is =
     let both = and_parts (is_ascii_digit b) (list_all is_ascii_digit bs) is in
@@ -50,23 +50,23 @@ digits_pass stop never (b ∷ bs) is =
 
 -- ---- octets without `%`
 
-other : (b : ℕ) → is_other 37 b ≡ true → (b == 37) ≡ false
+other : (b : ℕ) → is_different_char 37 b ≡ true → (b == 37) ≡ false
 other b is = by (b == 37) is
   where
     by : (t : Bool) → not t ≡ true → t ≡ false
     by true h = sym h
     by false h = refl
 
-skipped : (b : ℕ) (rest : List ℕ) → (b == 37) ≡ false → has_whole_escapes (b ∷ rest) ≡ has_whole_escapes rest
+skipped : (b : ℕ) (rest : List ℕ) → (b == 37) ≡ false → has_complete_escapes (b ∷ rest) ≡ has_complete_escapes rest
 skipped b [] h = rw h refl
 skipped b (c ∷ []) h = rw h refl
 skipped b (c ∷ d ∷ rest) h = rw h refl
 
-whole : (octets : List ℕ) → AllPass (is_other 37) octets → has_whole_escapes octets ≡ true
+whole : (octets : List ℕ) → AllPass (is_different_char 37) octets → has_complete_escapes octets ≡ true
 whole [] all = refl
 whole (b ∷ bs) all = skipped b bs (other b all.0) ∙ whole bs all.1
 
-undecoded : (octets : List ℕ) → AllPass (is_other 37) octets → percent_decode octets ≡ octets
+undecoded : (octets : List ℕ) → AllPass (is_different_char 37) octets → percent_decode octets ≡ octets
 undecoded [] all = percent_decode-nil
 undecoded (b ∷ bs) all =
     percent_decode_not_percent b bs (λ same. let never : true ≡ false = sym (eq-eqb b 37 same) ∙ other b all.0 in absurd cc)
@@ -88,7 +88,7 @@ pub numeral_ascii : (octets : List ℕ) (n : ℕ) → numeral_of octets ≡ Some
 numeral_ascii octets n is = word_letters octets (digits_ascii octets (numeral_digits octets n is))
 
 -- a numeral, decoded, is itself
-pub numeral_stands : (octets : List ℕ) (n : ℕ) → numeral_of octets ≡ Some n → StandsFor octets (chars octets)
+pub numeral_stands : (octets : List ℕ) (n : ℕ) → numeral_of octets ≡ Some n → DecodesTo octets (chars octets)
 numeral_stands octets n is =
     let plain = digits_pass 37 refl octets (numeral_digits octets n is) in
     stands_for_itself octets (numeral_ascii octets n is) (word_stands octets (whole octets plain) (undecoded octets plain))
@@ -108,11 +108,11 @@ tests = record {
     from_range : (c : ℕ) → (48 ≤ c) × (c ≤ 57) → is_ascii_digit c ≡ true
     from_range c h = and_from (nat_le 48 c) (nat_le c 57) (le-leb 48 c h.0) (le-leb c 57 h.1)
 
-folds : FoldsDigits (number_from decimal_digits)
+folds : FoldsDigits (number_of_digits decimal_digits)
 folds = record { empty = λ n. refl; more = λ n c cs low. refl }
 
-own : IsNumeralModel (λ digits. list_all is_ascii_digit digits ≡ true) (number_from decimal_digits 0)
-own = numerals_by_fold (λ digits. list_all is_ascii_digit digits ≡ true) tests (number_from decimal_digits) folds
+own : IsNumeralModel (λ digits. list_all is_ascii_digit digits ≡ true) (number_of_digits decimal_digits 0)
+own = numerals_by_fold (λ digits. list_all is_ascii_digit digits ≡ true) tests (number_of_digits decimal_digits) folds
 
 begins : (digits : List ℕ) → list_all is_ascii_digit digits ≡ true → 48 < get_or digits 0 0 → begins_with_digit digits ≡ true
 begins [] are some = absurd (omega (arith, some))

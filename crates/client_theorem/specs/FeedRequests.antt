@@ -3,13 +3,13 @@
 -- server's own.
 use Rattle.std.specs.Prelude.{◌≡◌, ℕ, true, false, List, [], ◌∷◌, ◌++◌, codes, encode_utf8_all}
 use Rattle.std.specs.Prelude.{Some, Ok}
-use Rattle.doc_names.specs.Ids.{IsAddressable, id_text}
+use Rattle.doc_names.specs.DocIds.{IsAddressable, id_text}
 use Rattle.doc_names.specs.Usages.{usage_of}
 use Rattle.doc_names.specs.declared.doc_id.DocId.{DocId}
 use Rattle.doc_names.specs.declared.doc_id.Home.{Home}
 use Rattle.doc_names.specs.declared.doc_id.Home.TheVariants.{Global, User}
 use Rattle.doc_names.specs.declared.usages.Usage.{Usage}
-use Rattle.xcap_uri.specs.Targets.{TargetResult}
+use Rattle.xcap_uri.specs.Targets.{IsTargetResult}
 use Rattle.xcap_uri.specs.declared.target.Mode.{Mode}
 use Rattle.xcap_uri.specs.declared.target.Mode.TheVariants.{NoPatching, XcapPatching, Aggregate}
 use Rattle.xcap_uri.specs.declared.target.Target.TheVariants.{Feed}
@@ -63,6 +63,6 @@ pub record HasFeed (doc : DocId) : Type 0 where
 -- and is allowed to
 pub record AsksForFeed (root : List ℕ) (mode : Mode) (tag : ℕ) (doc : DocId)
     (request : Request) : Type 0 where
-  pub target : TargetResult root request.target (Ok (Feed mode tag doc))
+  pub target : IsTargetResult root request.target (Ok (Feed mode tag doc))
   pub method : method_of request.method ≡ Get
   pub allowed : is_allowed false doc.auid doc.home request.fields ≡ true

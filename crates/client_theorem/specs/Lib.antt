@@ -1,5 +1,5 @@
-pub mod Faults
 pub mod FeedRequests
+pub mod FollowFaults
 pub mod FollowResults
 pub mod SubscriberVersions
 pub mod inner

@@ -1,6 +1,6 @@
 //! Requests for feeds, and the address of a feed.
 ghost use Rattle.std.specs.Prelude.{◌≡◌, ◌↔◌, IsTrue, IfOk};
-ghost use Rattle.doc_names.specs.Ids.{IsNameable};
+ghost use Rattle.doc_names.specs.DocIds.{IsDocumentSegment};
 ghost use Rattle.client_theorem.specs.FeedRequests.{HasFeed, feed_address, feed_request, mode_text};
 ghost use Rattle.client_theorem.specs.FeedRequests.{user_field, user_fields};
 
@@ -14,7 +14,7 @@ use xml_names::{List, Text};
 
 // Whether a text can name a user or a document in an address.
 fn is_nameable(text: &Text) -> bool
-    ensures exact { IsTrue result ↔ IsNameable text.now }
+    ensures exact { IsTrue result ↔ IsDocumentSegment text.now }
 {
     !text.is_empty() && !text.is("~~")
 }

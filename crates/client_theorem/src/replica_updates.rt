@@ -2,19 +2,19 @@
 ghost use Rattle.std.specs.Prelude.{◌≡◌, ◌↔◌, ℕ, IsTrue, IfOk};
 ghost use Rattle.doc_names.specs.declared.doc_id.DocId.{DocId as TheDoc};
 ghost use Rattle.xcap_uri.specs.declared.target.Mode.{Mode as TheMode};
-ghost use Rattle.xcap_machine.specs.Answers.{unchanged};
+ghost use Rattle.xcap_machine.specs.Answers.{reply_only};
 ghost use Rattle.xcap_machine.specs.Requests.{IsAnswer};
 ghost use Rattle.store_core.specs.Contents.{Represents};
 ghost use Rattle.store_core.specs.ValidStates.{IsValidState};
 ghost use Rattle.store_core.specs.State.{State};
-ghost use Rattle.patch_apply.specs.Views.{IsWithinLevels, stored_in};
-ghost use Rattle.patch_laws.specs.ReplayLaws.{HoldsSound};
+ghost use Rattle.patch_apply.specs.Views.{IsWithinLevels, replica_view};
+ghost use Rattle.patch_laws.specs.ReplayLaws.{HasReplicaTree};
 ghost use Rattle.client_theorem.specs.FeedRequests.{AsksForFeed, HasFeed};
-ghost use Rattle.client_theorem.specs.FollowResults.{Follows, OrNoMemory, Takes};
-ghost use Rattle.client_theorem.specs.SubscriberVersions.{DropsWhatIsGone, HoldsThePresent};
-ghost use Rattle.client_theorem.specs.inner.FeedRequests.{Asks};
+ghost use Rattle.client_theorem.specs.FollowResults.{FollowsFeed, HoldsOrNoMemory, TakesReply};
+ghost use Rattle.client_theorem.specs.SubscriberVersions.{DropsGoneDocument, HoldsCurrentVersion};
+ghost use Rattle.client_theorem.specs.inner.FeedRequests.{AsksForChanges};
 
-use crate::fault::FollowFault;
+use crate::follow_fault::FollowFault;
 use crate::{feed_request, requests_ask_for_feeds};
 use doc_names::DocId;
 use edit_ops::Edit;
@@ -25,13 +25,13 @@ use reply_text::Reply;
 use std::alloc::{AllocError, Global};
 use xcap_machine::subscribers_hold_the_document;
 use xcap_server::{Server, answer};
-use xcap_uri::{Mode, Root, numeral};
+use xcap_uri::{Mode, Root, parse_numeral};
 use xml_names::MAX_LEVELS;
 use xml_tree::depth;
 
 /// Whether a replica has at most `MAX_LEVELS` levels, as every document has. Does not allocate.
 pub fn is_within_levels(replica: &Replica) -> bool
-    ensures exact { IsTrue result ↔ IsWithinLevels (stored_in replica.now.held) }
+    ensures exact { IsTrue result ↔ IsWithinLevels (replica_view replica.now.held) }
 {
     match &replica.held {
         None => true,
@@ -48,12 +48,12 @@ fn request_since(
     held: &Option<ReplicaVersion>,
 ) -> Result<Request, FollowFault>
     requires has_feed { HasFeed doc.now }
-    ensures asks_since { Asks root.now mode doc.now (stored_in held.now) result }
+    ensures asks_since { AsksForChanges root.now mode doc.now (replica_view held.now) result }
 {
     let Some(held) = held else {
         return Err(FollowFault::Nothing);
     };
-    if numeral(held.tag.as_str().as_bytes()).is_none() {
+    if parse_numeral(held.tag.as_str().as_bytes()).is_none() {
         return Err(FollowFault::BadTag);
     }
     requests_ask_for_feeds(root, doc);
@@ -62,11 +62,11 @@ fn request_since(
 }
 
 // Asks a server for a feed, which changes nothing.
-fn ask(server: &mut Server, request: &Request) -> Result<MachineReply<Edit>, AllocError>
+fn ask_server(server: &mut Server, request: &Request) -> Result<MachineReply<Edit>, AllocError>
     ensures machine_feed { (mode : TheMode) (n : ℕ) (doc : TheDoc)
         → AsksForFeed server.old.root mode n doc request.now
         → IfOk result (λ answered. IsAnswer server.old.root server.old.content request.now
-        (unchanged answered.reply)) × (server.new.content ≡ server.old.content) }
+        (reply_only answered.reply)) × (server.new.content ≡ server.old.content) }
     ensures same_root { server.new.root ≡ server.old.root }
 {
     server.store().represents_valid_state();
@@ -74,18 +74,18 @@ fn ask(server: &mut Server, request: &Request) -> Result<MachineReply<Edit>, All
 }
 
 // What a reply makes of a replica.
-fn take(alloc: Global, replica: &mut Replica, reply: &Reply) -> Result<Applied, FollowFault>
-    requires height_bounded { IsWithinLevels (stored_in replica.old.held) }
-    ensures takes_reply { OrNoMemory (Takes replica.old.doc reply.now)
+fn apply_reply(alloc: Global, replica: &mut Replica, reply: &Reply) -> Result<Applied, FollowFault>
+    requires height_bounded { IsWithinLevels (replica_view replica.old.held) }
+    ensures takes_reply { HoldsOrNoMemory (TakesReply replica.old.doc reply.now)
         (record {
-          old = stored_in replica.old.held;
+          old = replica_view replica.old.held;
           result = result;
-          new = stored_in replica.new.held;
+          new = replica_view replica.new.held;
         }) }
     ensures same_document { replica.new.doc ≡ replica.old.doc }
-    ensures within_levels { IsWithinLevels (stored_in replica.new.held) }
-    ensures stays_sound { HoldsSound (stored_in replica.old.held)
-        → HoldsSound (stored_in replica.new.held) }
+    ensures within_levels { IsWithinLevels (replica_view replica.new.held) }
+    ensures stays_sound { HasReplicaTree (replica_view replica.old.held)
+        → HasReplicaTree (replica_view replica.new.held) }
 {
     if reply.status() != 200 {
         return Err(FollowFault::Status(reply.status()));
@@ -96,7 +96,7 @@ fn take(alloc: Global, replica: &mut Replica, reply: &Reply) -> Result<Applied, 
 }
 
 // Requests the changes of a document from the server, and applies the reply to the replica.
-fn follow(
+fn request_and_apply(
     alloc: Global,
     server: &mut Server,
     doc: &DocId,
@@ -104,9 +104,9 @@ fn follow(
     replica: &mut Replica,
 ) -> Result<Applied, FollowFault>
     requires has_feed { HasFeed doc.now }
-    requires height_bounded { IsWithinLevels (stored_in replica.old.held) }
-    ensures follows_machine { OrNoMemory
-        (Follows
+    requires height_bounded { IsWithinLevels (replica_view replica.old.held) }
+    ensures follows_machine { HoldsOrNoMemory
+        (FollowsFeed
         (record {
           root = server.old.root;
           content = server.old.content;
@@ -115,20 +115,20 @@ fn follow(
         })
         replica.old.doc)
         (record {
-          old = stored_in replica.old.held;
+          old = replica_view replica.old.held;
           result = result;
-          new = stored_in replica.new.held;
+          new = replica_view replica.new.held;
         }) }
     ensures same_document { replica.new.doc ≡ replica.old.doc }
-    ensures within_levels { IsWithinLevels (stored_in replica.new.held) }
-    ensures stays_sound { HoldsSound (stored_in replica.old.held)
-        → HoldsSound (stored_in replica.new.held) }
+    ensures within_levels { IsWithinLevels (replica_view replica.new.held) }
+    ensures stays_sound { HasReplicaTree (replica_view replica.old.held)
+        → HasReplicaTree (replica_view replica.new.held) }
     ensures server_unchanged { (server.new.root ≡ server.old.root)
         × (server.new.content ≡ server.old.content) }
 {
     let request = request_since(alloc, server.root(), mode, doc, &replica.held)?;
-    let answered = ask(server, &request)?;
-    take(alloc, replica, &answered.reply)
+    let answered = ask_server(server, &request)?;
+    apply_reply(alloc, replica, &answered.reply)
 }
 
 /// Follows a document of a server: asks it, as the document's user, for the changes of the
@@ -150,9 +150,9 @@ pub fn update_replica(
     replica: &mut Replica,
 ) -> Result<Applied, FollowFault>
     requires has_feed { HasFeed doc.now }
-    requires height_bounded { IsWithinLevels (stored_in replica.old.held) }
-    ensures follows_machine { OrNoMemory
-        (Follows
+    requires height_bounded { IsWithinLevels (replica_view replica.old.held) }
+    ensures follows_machine { HoldsOrNoMemory
+        (FollowsFeed
         (record {
           root = server.old.root;
           content = server.old.content;
@@ -161,30 +161,30 @@ pub fn update_replica(
         })
         replica.old.doc)
         (record {
-          old = stored_in replica.old.held;
+          old = replica_view replica.old.held;
           result = result;
-          new = stored_in replica.new.held;
+          new = replica_view replica.new.held;
         }) }
     ensures holds_present { (m : State) → IsValidState m → Represents server.old.content m
         → replica.old.doc ≡ doc.now
-        → HoldsThePresent m mode doc.now
+        → HoldsCurrentVersion m mode doc.now
         (record {
-          old = stored_in replica.old.held;
+          old = replica_view replica.old.held;
           result = result;
-          new = stored_in replica.new.held;
+          new = replica_view replica.new.held;
         }) }
     ensures drops_gone { (m : State) → IsValidState m → Represents server.old.content m
         → replica.old.doc ≡ doc.now
-        → DropsWhatIsGone m doc.now
+        → DropsGoneDocument m doc.now
         (record {
-          old = stored_in replica.old.held;
+          old = replica_view replica.old.held;
           result = result;
-          new = stored_in replica.new.held;
+          new = replica_view replica.new.held;
         }) }
     ensures same_document { replica.new.doc ≡ replica.old.doc }
-    ensures within_levels { IsWithinLevels (stored_in replica.new.held) }
-    ensures stays_sound { HoldsSound (stored_in replica.old.held)
-        → HoldsSound (stored_in replica.new.held) }
+    ensures within_levels { IsWithinLevels (replica_view replica.new.held) }
+    ensures stays_sound { HasReplicaTree (replica_view replica.old.held)
+        → HasReplicaTree (replica_view replica.new.held) }
     ensures server_unchanged { (server.new.root ≡ server.old.root)
         × (server.new.content ≡ server.old.content) }
 {
@@ -192,5 +192,5 @@ pub fn update_replica(
     let _text = server.root().text();
     requests_ask_for_feeds(server.root(), doc);
     subscribers_hold_the_document();
-    follow(alloc, server, doc, mode, replica)
+    request_and_apply(alloc, server, doc, mode, replica)
 }

@@ -15,7 +15,7 @@ pub struct CaseOptions {
 }
 
 impl CaseOptions {
-    fn usual(alloc: Global) -> Result<CaseOptions, AllocError> {
+    fn default_options(alloc: Global) -> Result<CaseOptions, AllocError> {
         Ok(CaseOptions {
             words: String::from_str(alloc, "replay http://xcap.example.com/xcap")?,
             status: 0,
@@ -40,7 +40,7 @@ impl CaseOptions {
 }
 
 fn parse_options(alloc: Global, paragraph: &str) -> Result<CaseOptions> {
-    let mut options = CaseOptions::usual(alloc)?;
+    let mut options = CaseOptions::default_options(alloc)?;
     for line in paragraph.lines() {
         match line.split_once(':') {
             Some((key, value)) => options.set(alloc, key, value.trim())?,

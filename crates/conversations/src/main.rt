@@ -6,15 +6,15 @@
 //! The standards are RFC 4825 and RFC 9112.
 #![tactic(auto)]
 
+mod case_files;
 mod case_options;
-mod files;
-mod lines;
 mod run;
-mod shared_line;
+mod shared_stream;
+mod streams;
 
+use crate::case_files::read_case_file;
 use crate::case_options::{CaseOptions, parse_runs};
-use crate::files::bytes_of;
-use crate::run::passes;
+use crate::run::run_passes;
 use anyhow::Result;
 use std::env;
 use std::process::ExitCode;
@@ -23,22 +23,22 @@ use std::process::ExitCode;
 const WHOLE: usize = 1_000_000;
 
 // Whether a run of a case goes as written, with whole bytes and byte by byte.
-fn is_as_written(rt: &HostRuntime, name: &str, options: &CaseOptions) -> Result<bool> {
-    let whole = passes(rt, name, options, WHOLE)?;
-    Ok(passes(rt, name, options, 1)? && whole)
+fn passes_at_all_sizes(rt: &HostRuntime, name: &str, options: &CaseOptions) -> Result<bool> {
+    let whole = run_passes(rt, name, options, WHOLE)?;
+    Ok(run_passes(rt, name, options, 1)? && whole)
 }
 
 // The options of each run of a case.
-fn runs(rt: &HostRuntime, name: &str) -> Result<Vec<CaseOptions>> {
-    let bytes = bytes_of(rt, name, "case")?;
+fn read_runs(rt: &HostRuntime, name: &str) -> Result<Vec<CaseOptions>> {
+    let bytes = read_case_file(rt, name, "case")?;
     parse_runs(rt.alloc(), str::from_utf8(&bytes)?)
 }
 
 // Whether all runs of a case go as written.
-fn holds(rt: &HostRuntime, name: &str) -> Result<bool> {
+fn case_passes(rt: &HostRuntime, name: &str) -> Result<bool> {
     let mut alike = true;
-    for options in &runs(rt, name)? {
-        alike &= is_as_written(rt, name, options)?;
+    for options in &read_runs(rt, name)? {
+        alike &= passes_at_all_sizes(rt, name, options)?;
     }
     Ok(alike)
 }
@@ -46,7 +46,7 @@ fn holds(rt: &HostRuntime, name: &str) -> Result<bool> {
 fn main(rt: HostRuntime) -> Result<ExitCode> {
     let mut failed = false;
     for name in env::args(&rt)?.skip(1) {
-        if holds(&rt, name.as_str())? {
+        if case_passes(&rt, name.as_str())? {
             println!(rt; "{name}: as written")?;
         } else {
             failed = true;

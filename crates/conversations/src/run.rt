@@ -1,8 +1,8 @@
 //! Runs of the program in memory.
+use crate::case_files::matches_file;
 use crate::case_options::CaseOptions;
-use crate::files::matches_file;
-use crate::lines::{Lines, ROOM};
-use crate::shared_line::SharedStream;
+use crate::shared_stream::SharedStream;
+use crate::streams::{Lines, ROOM};
 use anyhow::Result;
 use std::alloc::{AllocError, Global};
 use watchers::{Audit, Watcher};
@@ -10,7 +10,7 @@ use xcap_app::run;
 use xcap_io::{MemStream, StdSink};
 
 // The words of a command line, separated by single spaces.
-fn words_of(alloc: Global, line: &str) -> Result<Vec<String>, AllocError> {
+fn split_words(alloc: Global, line: &str) -> Result<Vec<String>, AllocError> {
     let mut words = Vec::new(alloc);
     if line.is_empty() {
         return Ok(words);
@@ -23,7 +23,7 @@ fn words_of(alloc: Global, line: &str) -> Result<Vec<String>, AllocError> {
 
 // Runs the program on these streams, with an audit on a stream, and returns its status. It
 // promises nothing, so that its caller isn't proved over all that `run` promises.
-fn run_over(
+fn run_on_streams(
     alloc: Global,
     words: &[String],
     lines: &mut Lines,
@@ -45,14 +45,14 @@ fn run_over(
 }
 
 // The exit status of a command line that is run on these streams.
-fn status_of(
+fn run_command_line(
     alloc: Global,
     line: &str,
     lines: &mut Lines,
     told: &SharedStream,
 ) -> Result<u8, AllocError> {
-    let words = words_of(alloc, line)?;
-    run_over(alloc, &words, lines, told)
+    let words = split_words(alloc, line)?;
+    run_on_streams(alloc, &words, lines, told)
 }
 
 // Whether a run ended with the expected status. Prints the status otherwise.
@@ -104,14 +104,14 @@ fn streams_match(rt: &HostRuntime, name: &str, lines: &Lines, told: &SharedStrea
 }
 
 // Whether a run of a case on these streams has the expected status and bytes.
-fn passes_on(
+fn passes_on_streams(
     rt: &HostRuntime,
     name: &str,
     options: &CaseOptions,
     lines: &mut Lines,
     told: &SharedStream,
 ) -> Result<bool> {
-    let status = status_of(rt.alloc(), options.words.as_str(), lines, told)?;
+    let status = run_command_line(rt.alloc(), options.words.as_str(), lines, told)?;
     let mut alike = check_status(rt, name, options.status, status)?;
     alike &= streams_match(rt, name, lines, told)?;
     Ok(all_outputs_match(rt, name, options, lines)? && alike)
@@ -119,8 +119,13 @@ fn passes_on(
 
 /// Whether a run of a case whose bytes come in pieces of this size has the expected status and
 /// bytes.
-pub fn passes(rt: &HostRuntime, name: &str, options: &CaseOptions, size: usize) -> Result<bool> {
+pub fn run_passes(
+    rt: &HostRuntime,
+    name: &str,
+    options: &CaseOptions,
+    size: usize,
+) -> Result<bool> {
     let told = SharedStream::new(rt.alloc(), ROOM)?;
     let mut lines = Lines::new(rt, name, options, size)?;
-    passes_on(rt, name, options, &mut lines, &told)
+    passes_on_streams(rt, name, options, &mut lines, &told)
 }

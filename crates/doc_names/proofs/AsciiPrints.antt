@@ -9,8 +9,8 @@ use Rattle.doc_names.specs.declared.doc_id.Auid.TheVariants.{ResourceLists, RlsS
 use Rattle.doc_names.specs.declared.doc_id.Home.{Home}
 use Rattle.doc_names.specs.declared.doc_id.Home.TheVariants.{Global, User}
 use Rattle.doc_names.specs.declared.doc_id.DocId.{DocId}
-use Rattle.doc_names.specs.Escapes.{escaped, is_visible, escaped_part as part_text}
-use Rattle.doc_names.specs.Ids.{home_text, id_text}
+use Rattle.doc_names.specs.PercentEscapes.{escape_octets, is_visible, escape_part as part_text}
+use Rattle.doc_names.specs.DocIds.{home_text, id_text}
 use Rattle.doc_names.specs.Usages.{auid_text}
 use Rattle.doc_names.proofs.Words.{word_letters}
 use Rattle.doc_names.proofs.OctetPrints.{parts_escaped, visible_escaped}
@@ -31,5 +31,5 @@ pub id_letters : (doc : DocId) → chars (id_text doc) ≡ id_text doc
 id_letters doc = chars-IsAscii (id_text doc) (IsAscii-append (auid_text doc.auid) (home_text doc.home ++ part_text doc.name) (auid_letters doc.auid) (IsAscii-append (home_text doc.home) (part_text doc.name) (home_letters doc.home) (part_letters doc.name)))
 
 -- the selector in an element's xcap-diff document
-pub visible_letters : (octets : List ℕ) → chars (escaped is_visible octets) ≡ escaped is_visible octets
-visible_letters octets = chars-IsAscii (escaped is_visible octets) (subst IsAscii (visible_escaped octets) (IsAscii-percent_encode INVISIBLE octets))
+pub visible_letters : (octets : List ℕ) → chars (escape_octets is_visible octets) ≡ escape_octets is_visible octets
+visible_letters octets = chars-IsAscii (escape_octets is_visible octets) (subst IsAscii (visible_escaped octets) (IsAscii-percent_encode INVISIBLE octets))

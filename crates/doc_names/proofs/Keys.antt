@@ -10,7 +10,7 @@ use Rattle.doc_names.specs.declared.doc_id.Auid.{Auid}
 use Rattle.doc_names.specs.declared.doc_id.Auid.TheVariants.{ResourceLists, RlsServices, XcapCaps}
 use Rattle.doc_names.specs.declared.doc_id.Home.{Home}
 use Rattle.doc_names.specs.declared.doc_id.Home.TheVariants.{Global, User}
-use Rattle.doc_names.specs.Equality.{same_auid, same_home, same_id}
+use Rattle.doc_names.specs.NameEquality.{same_auid, same_home, same_id}
 
 auids : (a b : Auid) → auid-eq.it a b ≡ same_auid a b
 auids ResourceLists ResourceLists = refl

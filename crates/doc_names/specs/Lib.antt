@@ -1,4 +1,4 @@
-pub mod Equality
-pub mod Escapes
-pub mod Ids
+pub mod DocIds
+pub mod NameEquality
+pub mod PercentEscapes
 pub mod Usages

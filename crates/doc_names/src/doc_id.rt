@@ -1,7 +1,7 @@
 //! Names of documents (RFC 4825, section 6.2). Two names are equal where their parts are, so they
 //! serve as keys of maps.
 ghost use Rattle.std.specs.Prelude.{◌≡◌, ◌↔◌, IsTrue, IfOk};
-ghost use Rattle.doc_names.specs.Equality.{same_id};
+ghost use Rattle.doc_names.specs.NameEquality.{same_id};
 
 use std::alloc::{AllocError, Global};
 use xml_names::Text;

@@ -1,6 +1,6 @@
 //! Escapes in printed addresses (RFC 3986, section 2.1).
 ghost use Rattle.std.specs.Prelude.{◌≡◌, ◌++◌, OnOk, string_bytes};
-ghost use Rattle.doc_names.specs.Escapes.{escaped, is_visible, escaped_part};
+ghost use Rattle.doc_names.specs.PercentEscapes.{escape_octets, is_visible, escape_part};
 
 use percent_encoding::{
     AsciiSet, CONTROLS, NON_ALPHANUMERIC, ascii_set, percent_encode, utf8_percent_encode,
@@ -38,9 +38,9 @@ const INVISIBLE: AsciiSet = ascii_set!(CONTROLS.add(b' '));
 ///
 /// # Errors
 /// `NoMemory` when out of memory.
-pub fn push_part(line: &mut String, text: &Text) -> Result<(), AllocError>
+pub fn push_escaped_part(line: &mut String, text: &Text) -> Result<(), AllocError>
     ensures appended { OnOk result
-        (string_bytes line.new ≡ string_bytes line.old ++ escaped_part text.now) }
+        (string_bytes line.new ≡ string_bytes line.old ++ escape_part text.now) }
 {
     utf8_percent_encode(text.as_str(), ESCAPED_IN_PARTS).append_to(line)?;
     Ok(())
@@ -50,9 +50,9 @@ pub fn push_part(line: &mut String, text: &Text) -> Result<(), AllocError>
 ///
 /// # Errors
 /// `NoMemory` when out of memory.
-pub fn push_visible(line: &mut String, octets: &[u8]) -> Result<(), AllocError>
+pub fn push_escaped_octets(line: &mut String, octets: &[u8]) -> Result<(), AllocError>
     ensures appended { OnOk result
-        (string_bytes line.new ≡ string_bytes line.old ++ escaped is_visible octets.now) }
+        (string_bytes line.new ≡ string_bytes line.old ++ escape_octets is_visible octets.now) }
 {
     percent_encode(octets, INVISIBLE).append_to(line)?;
     Ok(())

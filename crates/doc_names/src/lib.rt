@@ -11,6 +11,6 @@ mod print;
 mod usages;
 
 pub use doc_id::{Auid, DocId, Home};
-pub use escapes::{push_part, push_visible};
+pub use escapes::{push_escaped_octets, push_escaped_part};
 pub use print::print_doc_id;
 pub use usages::Usage;

@@ -1,11 +1,11 @@
 //! Printed document ids: `AUID/users/XUI/NAME` or `AUID/global/NAME` (RFC 4825, section 6.2),
 //! with each part escaped.
 ghost use Rattle.std.specs.Prelude.{◌≡◌, ◌++◌, OnOk, IfOk, string_bytes};
-ghost use Rattle.doc_names.specs.Ids.{home_text, id_text};
+ghost use Rattle.doc_names.specs.DocIds.{home_text, id_text};
 ghost use Rattle.doc_names.specs.Usages.{auid_text};
 
 use crate::doc_id::{Auid, DocId, Home};
-use crate::escapes::push_part;
+use crate::escapes::push_escaped_part;
 use std::alloc::{AllocError, Global};
 use xml_names::Text;
 
@@ -26,7 +26,7 @@ fn push_home(line: &mut String, home: &Home) -> Result<(), AllocError>
         Home::Global => line.push_str("/global/"),
         Home::User(xui) => {
             line.push_str("/users/")?;
-            push_part(line, xui)?;
+            push_escaped_part(line, xui)?;
             line.push_str("/")
         }
     }
@@ -42,6 +42,6 @@ pub fn print_doc_id(alloc: Global, doc: &DocId) -> Result<Text, AllocError>
     let mut line = String::new(alloc);
     push_auid(&mut line, doc.auid)?;
     push_home(&mut line, &doc.home)?;
-    push_part(&mut line, &doc.name)?;
+    push_escaped_part(&mut line, &doc.name)?;
     Ok(Text::own(line))
 }

@@ -3,7 +3,7 @@ use Rattle.std.proofs.Common.{◌≡◌, ℕ, ◌≤◌, List, [], ◌∷◌, �
 use Rattle.std.proofs.lemmas.List.Elements.{All-head, All-tail}
 use Rattle.http_wire.specs.declared.request.Request.{Request}
 use Rattle.edit_journal.specs.Records.{record_of}
-use Rattle.edit_journal.specs.Texts.{text, IsRecordedRequest}
+use Rattle.edit_journal.specs.JournalTexts.{journal_text, IsRecordedRequest}
 use Rattle.edit_journal.proofs.Lengths.{record_length}
 use Rattle.edit_journal.proofs.CompleteRequests.{one_record}
 
@@ -22,12 +22,12 @@ nothing_before [] ys e = refl
 nothing_before (x ∷ xs) ys e = absurd (omega (arith, ap length e))
 
 -- a text that begins with the records of some requests is the text of these and others
-pub begin_alike : (requests all : List Request) (bytes : List ℕ) → All IsRecordedRequest requests → All IsRecordedRequest all → text all ≡ text requests ++ bytes
-    → (left : List Request) × (all ≡ requests ++ left) × (text left ≡ bytes) × All IsRecordedRequest left
+pub begin_alike : (requests all : List Request) (bytes : List ℕ) → All IsRecordedRequest requests → All IsRecordedRequest all → journal_text all ≡ journal_text requests ++ bytes
+    → (left : List Request) × (all ≡ requests ++ left) × (journal_text left ≡ bytes) × All IsRecordedRequest left
 begin_alike [] all bytes told told' e = (all, refl, e, told')
 begin_alike (a ∷ xs) [] bytes told told' e =
-    absurd (omega (arith, ap length e, length-append (text (a ∷ xs)) bytes, length-append (record_of a) (text xs), record_length a))
+    absurd (omega (arith, ap length e, length-append (journal_text (a ∷ xs)) bytes, length-append (record_of a) (journal_text xs), record_length a))
 begin_alike (a ∷ xs) (b ∷ ys) bytes told told' e =
-    let one = one_record b a (text ys) (text xs ++ bytes) (All-head IsRecordedRequest b ys told') (All-head IsRecordedRequest a xs told) (e ∙ append_assoc (record_of a) (text xs) bytes) in
+    let one = one_record b a (journal_text ys) (journal_text xs ++ bytes) (All-head IsRecordedRequest b ys told') (All-head IsRecordedRequest a xs told) (e ∙ append_assoc (record_of a) (journal_text xs) bytes) in
     let more = begin_alike xs ys bytes (All-tail IsRecordedRequest a xs told) (All-tail IsRecordedRequest b ys told') one.1 in
     (more.0, (λ i. one.0 i ∷ more.1 i), more.2, more.3)

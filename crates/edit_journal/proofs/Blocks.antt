@@ -8,10 +8,10 @@ use Rattle.std.specs.Int.{from_be_bytes}
 use Rattle.httparse.proofs.OpenLemmas.{letter_is_token}
 use Rattle.std.specs.Int.{w32, to_be_bytes}
 use Rattle.httparse.specs.Grammar.{is_token_byte, AllPass}
-use Rattle.edit_journal.specs.Records.{block}
+use Rattle.edit_journal.specs.Records.{length_prefixed}
 use Rattle.edit_journal.specs.declared.field_parsers.FieldError.{FieldError}
 use Rattle.edit_journal.specs.declared.field_parsers.FieldError.TheVariants.{Open, Wrong, NoMemory}
-use Rattle.edit_journal.specs.inner.PartReaders.{Reads, Number, Block, Name}
+use Rattle.edit_journal.specs.inner.RecordParts.{ReadsPart, IsU32Between, IsBlockBetween, IsTokenBlock}
 
 -- two equal lists that begin with parts of the same length begin with the same part, and continue
 -- with the same rest
@@ -33,12 +33,12 @@ second_part (x ∷ xs) ys (x' ∷ xs') ys' same e =
     let rest : xs' ++ ys' ≡ xs ++ ys = cc in
     second_part xs ys xs' ys' (omega arith) rest
 
-pub block_is : (value : List ℕ) → block value ≡ to_be_bytes w32 (length value) ++ value
-unfolding block
+pub block_is : (value : List ℕ) → length_prefixed value ≡ to_be_bytes w32 (length value) ++ value
+unfolding length_prefixed
 block_is value = refl
 
 -- a block whose number is missing
-pub block_stops : {B : Type 0} (seen : B → List ℕ) (bytes : List ℕ) (least most : ℕ) (stop : FieldError) → Reads (λ n. n) (Number least most) bytes (Err stop) → Reads seen (Block least most) bytes (Err stop)
+pub block_stops : {B : Type 0} (seen : B → List ℕ) (bytes : List ℕ) (least most : ℕ) (stop : FieldError) → ReadsPart (λ n. n) (IsU32Between least most) bytes (Err stop) → ReadsPart seen (IsBlockBetween least most) bytes (Err stop)
 block_stops seen bytes least most Open (more, value, some, (is, low, high)) =
     let zeros = replicate value 0 in
     let size : length zeros ≡ value = length-replicate value 0 in (
@@ -64,7 +64,7 @@ letters_pass : (n : ℕ) → AllPass is_token_byte (letters n)
 unfolding letters
 letters_pass n = All-replicate (λ b. is_token_byte b ≡ true) n 65 letter_is_token
 
-pub name_stops : {B : Type 0} (seen : B → List ℕ) (bytes : List ℕ) (least most : ℕ) (stop : FieldError) → 0 < least → Reads (λ n. n) (Number least most) bytes (Err stop) → Reads seen (Name least most) bytes (Err stop)
+pub name_stops : {B : Type 0} (seen : B → List ℕ) (bytes : List ℕ) (least most : ℕ) (stop : FieldError) → 0 < least → ReadsPart (λ n. n) (IsU32Between least most) bytes (Err stop) → ReadsPart seen (IsTokenBlock least most) bytes (Err stop)
 name_stops seen bytes least most Open one (more, value, some, (is, low, high)) =
     let all = letters value in
     let size : length all ≡ value = letters_length value in (
@@ -83,8 +83,8 @@ behind_number bytes front rest len split is =
     ap (drop 4) split ∙ drop-append-le 4 front rest (omega arith) ∙ ap (λ l. l ++ rest) (drop_all 4 front (omega arith))
 
 -- A number, and then fewer bytes than it says.
-pub block_open : {B : Type 0} (seen : B → List ℕ) (bytes : List ℕ) (least most len : ℕ) (piece : List ℕ) → Reads (λ n. n) (Number least most) bytes (Ok len)
-    → piece ≡ take len (drop 4 bytes) → length piece < len → Reads seen (Block least most) bytes (Err Open)
+pub block_open : {B : Type 0} (seen : B → List ℕ) (bytes : List ℕ) (least most len : ℕ) (piece : List ℕ) → ReadsPart (λ n. n) (IsU32Between least most) bytes (Ok len)
+    → piece ≡ take len (drop 4 bytes) → length piece < len → ReadsPart seen (IsBlockBetween least most) bytes (Err Open)
 block_open seen bytes least most len piece (front, rest, split, (is, low, high)) part short =
     let same : piece ≡ take len rest = part ∙ ap (take len) (behind_number bytes front rest len split is) in
     let whole : length rest < len = omega (arith, ap length same, length-take len rest) in
@@ -94,8 +94,8 @@ block_open seen bytes least most len piece (front, rest, split, (is, low, high))
     (zeros, rest ++ zeros, omega arith, (ap (λ l. l ++ zeros) split ∙ append_assoc front rest zeros ∙ ap (λ l. l ++ (rest ++ zeros)) is ∙ ap (λ n. to_be_bytes w32 n ++ (rest ++ zeros)) (sym size) ∙ sym (block_is (rest ++ zeros)), omega arith, omega arith))
 
 -- A number, and that many bytes.
-pub block_whole : (bytes : List ℕ) (least most len : ℕ) (piece : List ℕ) → Reads (λ n. n) (Number least most) bytes (Ok len)
-    → piece ≡ take len (drop 4 bytes) → len ≤ length piece → (front rest : List ℕ) × (bytes ≡ front ++ rest) × Block least most front piece
+pub block_whole : (bytes : List ℕ) (least most len : ℕ) (piece : List ℕ) → ReadsPart (λ n. n) (IsU32Between least most) bytes (Ok len)
+    → piece ≡ take len (drop 4 bytes) → len ≤ length piece → (front rest : List ℕ) × (bytes ≡ front ++ rest) × IsBlockBetween least most front piece
 block_whole bytes least most len piece (front, rest, split, (is, low, high)) part long =
     let same : piece ≡ take len rest = part ∙ ap (take len) (behind_number bytes front rest len split is) in
     let size : length piece ≡ len = omega (arith, ap length same, length-take len rest) in (
@@ -106,8 +106,8 @@ block_whole bytes least most len piece (front, rest, split, (is, low, high)) par
     )
 
 -- A number, and then fewer bytes than it says, all of them allowed in a token.
-pub name_open : {B : Type 0} (seen : B → List ℕ) (bytes : List ℕ) (least most len : ℕ) (piece : List ℕ) → 0 < least → Reads (λ n. n) (Number least most) bytes (Ok len)
-    → piece ≡ take len (drop 4 bytes) → length piece < len → AllPass is_token_byte piece → Reads seen (Name least most) bytes (Err Open)
+pub name_open : {B : Type 0} (seen : B → List ℕ) (bytes : List ℕ) (least most len : ℕ) (piece : List ℕ) → 0 < least → ReadsPart (λ n. n) (IsU32Between least most) bytes (Ok len)
+    → piece ≡ take len (drop 4 bytes) → length piece < len → AllPass is_token_byte piece → ReadsPart seen (IsTokenBlock least most) bytes (Err Open)
 name_open seen bytes least most len piece one (front, rest, split, (is, low, high)) part short consume =
     let same : piece ≡ take len rest = part ∙ ap (take len) (behind_number bytes front rest len split is) in
     let whole : length rest < len = omega (arith, ap length same, length-take len rest) in
@@ -128,8 +128,8 @@ pub one_number : (a b : ℕ) → a < 2 ^ 32 → b < 2 ^ 32 → to_be_bytes w32 a
 one_number a b fits fits' e = sym (from_be_bytes-to_be_bytes_4 a fits) ∙ ap (from_be_bytes w32) e ∙ from_be_bytes-to_be_bytes_4 b fits'
 
 -- A number, and then bytes of which one is not allowed in a token.
-pub name_wrong : {B : Type 0} (seen : B → List ℕ) (bytes : List ℕ) (least most len : ℕ) (piece : List ℕ) → most < 2 ^ 32 → Reads (λ n. n) (Number least most) bytes (Ok len)
-    → piece ≡ take len (drop 4 bytes) → ¬ (AllPass is_token_byte piece) → Reads seen (Name least most) bytes (Err Wrong)
+pub name_wrong : {B : Type 0} (seen : B → List ℕ) (bytes : List ℕ) (least most len : ℕ) (piece : List ℕ) → most < 2 ^ 32 → ReadsPart (λ n. n) (IsU32Between least most) bytes (Ok len)
+    → piece ≡ take len (drop 4 bytes) → ¬ (AllPass is_token_byte piece) → ReadsPart seen (IsTokenBlock least most) bytes (Err Wrong)
 name_wrong seen bytes least most len piece fits (front, rest, split, (is, low, high)) part fails = λ all value more after named e.
     let same : piece ≡ take len rest = part ∙ ap (take len) (behind_number bytes front rest len split is) in
     let joined : front ++ (rest ++ more) ≡ to_be_bytes w32 (length value) ++ (value ++ after) =
@@ -145,7 +145,7 @@ name_wrong seen bytes least most len piece fits (front, rest, split, (is, low, h
     fails (subst (AllPass is_token_byte) (sym front_is) (All-take (λ b. is_token_byte b ≡ true) (length piece) value named.1.1))
 
 -- a block is determined by the bytes that it begins
-pub one_block : (a b x y : List ℕ) → length a < 2 ^ 32 → length b < 2 ^ 32 → block a ++ x ≡ block b ++ y → (a ≡ b) × (x ≡ y)
+pub one_block : (a b x y : List ℕ) → length a < 2 ^ 32 → length b < 2 ^ 32 → length_prefixed a ++ x ≡ length_prefixed b ++ y → (a ≡ b) × (x ≡ y)
 one_block a b x y fits fits' e =
     let joined : to_be_bytes w32 (length a) ++ (a ++ x) ≡ to_be_bytes w32 (length b) ++ (b ++ y) =
     sym (append_assoc (to_be_bytes w32 (length a)) a x) ∙ ap (λ l. l ++ x) (sym (block_is a)) ∙ e ∙ ap (λ l. l ++ y) (block_is b) ∙ append_assoc (to_be_bytes w32 (length b)) b y in

@@ -5,9 +5,9 @@ use Rattle.std.proofs.lemmas.Bool.{cases_lt}
 use Rattle.std.specs.Int.{w16, to_be_bytes}
 use Rattle.http_wire.specs.declared.request.Field.{Field}
 use Rattle.http_wire.specs.declared.request.Request.{Request}
-use Rattle.edit_journal.specs.Records.{method_number, block, field_text, record_content, record_of}
-use Rattle.edit_journal.specs.Texts.{text, IsRecordedRequest, HasNoRecord, IsTorn, OneWhole, Whole}
-use Rattle.edit_journal.specs.Journals.{IsFirstOf}
+use Rattle.edit_journal.specs.Records.{method_number, length_prefixed, field_text, record_content, record_of}
+use Rattle.edit_journal.specs.JournalTexts.{journal_text, IsRecordedRequest, HasNoRecord, IsTorn, RecordsAreUnique, HasCompleteRecords}
+use Rattle.edit_journal.specs.Journals.{IsPrefixOf}
 use Rattle.httparse.specs.Grammar.{IsToken}
 use Rattle.edit_journal.proofs.Blocks.{first_part, second_part, one_block}
 use Rattle.edit_journal.proofs.Lengths.{content_length, record_length, field_length}
@@ -41,8 +41,8 @@ one_fields (f ∷ fs) (g ∷ gs) x y same a b e =
     let long' = length-append (field_text g) (flat_map field_text gs) in
     let size = field_length f in
     let size' = field_length g in
-    let first = one_block f.name g.name (block f.value ++ (flat_map field_text fs ++ x)) (block g.value ++ (flat_map field_text gs ++ y)) (omega arith) (omega arith)
-    (sym (append_assoc (block f.name) (block f.value) (flat_map field_text fs ++ x)) ∙ sym (append_assoc (field_text f) (flat_map field_text fs) x) ∙ e ∙ append_assoc (field_text g) (flat_map field_text gs) y ∙ append_assoc (block g.name) (block g.value) (flat_map field_text gs ++ y)) in
+    let first = one_block f.name g.name (length_prefixed f.value ++ (flat_map field_text fs ++ x)) (length_prefixed g.value ++ (flat_map field_text gs ++ y)) (omega arith) (omega arith)
+    (sym (append_assoc (length_prefixed f.name) (length_prefixed f.value) (flat_map field_text fs ++ x)) ∙ sym (append_assoc (field_text f) (flat_map field_text fs) x) ∙ e ∙ append_assoc (field_text g) (flat_map field_text gs) y ∙ append_assoc (length_prefixed g.name) (length_prefixed g.value) (flat_map field_text gs ++ y)) in
     let next = one_block f.value g.value (flat_map field_text fs ++ x) (flat_map field_text gs ++ y) (omega arith) (omega arith) first.1 in
     let rest = one_fields fs gs x y (omega arith) (omega arith) (omega arith) next.1 in
     ((λ i. record { name = first.0 i; value = next.0 i } ∷ rest.0 i), rest.1)
@@ -52,13 +52,13 @@ one_content a b told told' e =
     let size = content_length a in
     let size' = content_length b in
     let number : method_number a.method ≡ method_number b.method = cc in
-    let behind : block a.target ++ (to_be_bytes w16 (length a.fields) ++ (flat_map field_text a.fields ++ block a.body)) ≡ block b.target ++ (to_be_bytes w16 (length b.fields) ++ (flat_map field_text b.fields ++ block b.body)) = cc in
-    let target = one_block a.target b.target (to_be_bytes w16 (length a.fields) ++ (flat_map field_text a.fields ++ block a.body)) (to_be_bytes w16 (length b.fields) ++ (flat_map field_text b.fields ++ block b.body))
+    let behind : length_prefixed a.target ++ (to_be_bytes w16 (length a.fields) ++ (flat_map field_text a.fields ++ length_prefixed a.body)) ≡ length_prefixed b.target ++ (to_be_bytes w16 (length b.fields) ++ (flat_map field_text b.fields ++ length_prefixed b.body)) = cc in
+    let target = one_block a.target b.target (to_be_bytes w16 (length a.fields) ++ (flat_map field_text a.fields ++ length_prefixed a.body)) (to_be_bytes w16 (length b.fields) ++ (flat_map field_text b.fields ++ length_prefixed b.body))
     (omega (arith, told.0.short)) (omega (arith, told'.0.short)) behind in
     let count : length a.fields ≡ length b.fields = one_short (length a.fields) (length b.fields) (omega (arith, told.0.few)) (omega (arith, told'.0.few))
-    (first_part (to_be_bytes w16 (length b.fields)) (flat_map field_text b.fields ++ block b.body) (to_be_bytes w16 (length a.fields)) (flat_map field_text a.fields ++ block a.body) refl target.1) in
-    let rest = second_part (to_be_bytes w16 (length b.fields)) (flat_map field_text b.fields ++ block b.body) (to_be_bytes w16 (length a.fields)) (flat_map field_text a.fields ++ block a.body) refl target.1 in
-    let fields = one_fields a.fields b.fields (block a.body) (block b.body) count (omega (arith, told.0.short)) (omega (arith, told'.0.short)) rest in
+    (first_part (to_be_bytes w16 (length b.fields)) (flat_map field_text b.fields ++ length_prefixed b.body) (to_be_bytes w16 (length a.fields)) (flat_map field_text a.fields ++ length_prefixed a.body) refl target.1) in
+    let rest = second_part (to_be_bytes w16 (length b.fields)) (flat_map field_text b.fields ++ length_prefixed b.body) (to_be_bytes w16 (length a.fields)) (flat_map field_text a.fields ++ length_prefixed a.body) refl target.1 in
+    let fields = one_fields a.fields b.fields (length_prefixed a.body) (length_prefixed b.body) count (omega (arith, told.0.short)) (omega (arith, told'.0.short)) rest in
     let body = one_block a.body b.body [] [] (omega (arith, told.0.body)) (omega (arith, told'.0.body)) (ap (λ l. l ++ []) fields.1) in
     λ i. record { method = one_method a.method b.method told.0.method number i; target = target.0 i; closes = (told.1 ∙ sym told'.1) i; fields = fields.0 i; body = body.0 i }
 
@@ -69,18 +69,18 @@ one_record a b x y told told' e =
     (one_content a b told told' same.0, same.1)
 
 one_list : (bytes : List ℕ) (requests requests' : List Request) (rest rest' : List ℕ) → All IsRecordedRequest requests → All IsRecordedRequest requests' → HasNoRecord rest → HasNoRecord rest'
-    → bytes ≡ text requests ++ rest → bytes ≡ text requests' ++ rest' → (requests ≡ requests') × (rest ≡ rest')
+    → bytes ≡ journal_text requests ++ rest → bytes ≡ journal_text requests' ++ rest' → (requests ≡ requests') × (rest ≡ rest')
 one_list bytes [] [] rest rest' told told' none none' e e' = (refl, sym e ∙ e')
 one_list bytes [] (b ∷ ys) rest rest' told told' none none' e e' =
-    absurd (none b (text ys ++ rest') (All-head IsRecordedRequest b ys told', sym e ∙ e' ∙ append_assoc (record_of b) (text ys) rest'))
+    absurd (none b (journal_text ys ++ rest') (All-head IsRecordedRequest b ys told', sym e ∙ e' ∙ append_assoc (record_of b) (journal_text ys) rest'))
 one_list bytes (a ∷ xs) [] rest rest' told told' none none' e e' =
-    absurd (none' a (text xs ++ rest) (All-head IsRecordedRequest a xs told, sym e' ∙ e ∙ append_assoc (record_of a) (text xs) rest))
+    absurd (none' a (journal_text xs ++ rest) (All-head IsRecordedRequest a xs told, sym e' ∙ e ∙ append_assoc (record_of a) (journal_text xs) rest))
 one_list bytes (a ∷ xs) (b ∷ ys) rest rest' told told' none none' e e' =
-    let one = one_record a b (text xs ++ rest) (text ys ++ rest') (All-head IsRecordedRequest a xs told) (All-head IsRecordedRequest b ys told') (sym (append_assoc (record_of a) (text xs) rest) ∙ sym e ∙ e' ∙ append_assoc (record_of b) (text ys) rest') in
-    let more = one_list (text xs ++ rest) xs ys rest rest' (All-tail IsRecordedRequest a xs told) (All-tail IsRecordedRequest b ys told') none none' refl one.1 in
+    let one = one_record a b (journal_text xs ++ rest) (journal_text ys ++ rest') (All-head IsRecordedRequest a xs told) (All-head IsRecordedRequest b ys told') (sym (append_assoc (record_of a) (journal_text xs) rest) ∙ sym e ∙ e' ∙ append_assoc (record_of b) (journal_text ys) rest') in
+    let more = one_list (journal_text xs ++ rest) xs ys rest rest' (All-tail IsRecordedRequest a xs told) (All-tail IsRecordedRequest b ys told') none none' refl one.1 in
     ((λ i. one.0 i ∷ more.0 i), more.1)
 
-pub one_whole : OneWhole
+pub one_whole : RecordsAreUnique
 one_whole bytes requests requests' rest rest' whole whole' =
     one_list bytes requests requests' rest rest' whole.told whole'.told whole.no_more whole'.no_more whole.split whole'.split
 
@@ -114,12 +114,12 @@ nothing_torn = (some_request, some_told, omega (arith, record_length some_reques
 pub nothing_in : HasNoRecord []
 nothing_in = λ request rest begins. omega (arith, ap length begins.1, length-append (record_of request) rest, record_length request)
 
-first_here : (request : Request) (requests : List Request) (bytes more : List ℕ) → All IsRecordedRequest (request ∷ requests) → record_of request ++ text requests ≡ bytes ++ more → length bytes < length (record_of request)
+first_here : (request : Request) (requests : List Request) (bytes more : List ℕ) → All IsRecordedRequest (request ∷ requests) → record_of request ++ journal_text requests ≡ bytes ++ more → length bytes < length (record_of request)
     → (more' : List ℕ) × (record_of request ≡ bytes ++ more')
 first_here request requests bytes more told e short =
-    let parts : bytes ++ more ≡ take (length bytes) (record_of request) ++ (drop (length bytes) (record_of request) ++ text requests) =
-    sym e ∙ ap (λ l. l ++ text requests) (sym (take-append-drop (length bytes) (record_of request))) ∙ append_assoc (take (length bytes) (record_of request)) (drop (length bytes) (record_of request)) (text requests) in
-    let front : bytes ≡ take (length bytes) (record_of request) = first_part (take (length bytes) (record_of request)) (drop (length bytes) (record_of request) ++ text requests) bytes more
+    let parts : bytes ++ more ≡ take (length bytes) (record_of request) ++ (drop (length bytes) (record_of request) ++ journal_text requests) =
+    sym e ∙ ap (λ l. l ++ journal_text requests) (sym (take-append-drop (length bytes) (record_of request))) ∙ append_assoc (take (length bytes) (record_of request)) (drop (length bytes) (record_of request)) (journal_text requests) in
+    let front : bytes ≡ take (length bytes) (record_of request) = first_part (take (length bytes) (record_of request)) (drop (length bytes) (record_of request) ++ journal_text requests) bytes more
     (sym (length-take-le (length bytes) (record_of request) (omega arith))) parts in
     (drop (length bytes) (record_of request), sym (take-append-drop (length bytes) (record_of request)) ∙ ap (λ l. l ++ drop (length bytes) (record_of request)) (sym front))
 
@@ -140,8 +140,8 @@ nothing_before (b ∷ bytes) more e = absurd (omega (arith, ap length e))
 
 -- in a prefix of a text the records of its first requests are complete, and after them comes a torn
 -- rest
-pub first_ones : (requests : List Request) (bytes : List ℕ) → All IsRecordedRequest requests → IsFirstOf bytes (text requests)
-    → (first more : List Request) × (rest : List ℕ) × (requests ≡ first ++ more) × Whole bytes first rest × IsTorn rest
+pub first_ones : (requests : List Request) (bytes : List ℕ) → All IsRecordedRequest requests → IsPrefixOf bytes (journal_text requests)
+    → (first more : List Request) × (rest : List ℕ) × (requests ≡ first ++ more) × HasCompleteRecords bytes first rest × IsTorn rest
 first_ones [] bytes told (more, e) =
     let none : bytes ≡ [] = nothing_before bytes more e in
     ([], [], [], refl, record { told = All-nil IsRecordedRequest; split = none; no_more = nothing_in }, nothing_torn)
@@ -151,7 +151,7 @@ first_ones (request ∷ requests) bytes told (more, e) = elim (cases_lt (length 
       let one = All-head IsRecordedRequest request requests told in
       ([], request ∷ requests, bytes, refl, record { told = All-nil IsRecordedRequest; split = refl; no_more = no_record_in bytes here.0 request one here.1 short }, (request, one, short, (here.0, here.1)))
   | inr long ↦
-      let parts = behind_it (record_of request) bytes (text requests) more long e in
+      let parts = behind_it (record_of request) bytes (journal_text requests) more long e in
       let one = All-head IsRecordedRequest request requests told in
       let rest = first_ones requests parts.0 (All-tail IsRecordedRequest request requests told) (more, parts.2) in (
         request ∷ rest.0,
@@ -160,7 +160,7 @@ first_ones (request ∷ requests) bytes told (more, e) = elim (cases_lt (length 
         ap (λ l. request ∷ l) rest.3,
         record {
           told = All-cons IsRecordedRequest request rest.0 one rest.4.told;
-          split = parts.1 ∙ ap (λ l. record_of request ++ l) rest.4.split ∙ sym (append_assoc (record_of request) (text rest.0) rest.2);
+          split = parts.1 ∙ ap (λ l. record_of request ++ l) rest.4.split ∙ sym (append_assoc (record_of request) (journal_text rest.0) rest.2);
           no_more = rest.4.no_more;
         },
         rest.5,

@@ -2,9 +2,9 @@
 use Rattle.std.proofs.Common.{◌≡◌, ℕ, ◌+◌, List, [], ◌++◌, length, Ok, Err, refl, sym, ap, ◌∙◌, arith, append-nil, append_assoc, length-append}
 use Rattle.http_wire.specs.declared.request.Request.{Request}
 use Rattle.edit_journal.specs.Records.{record_of, record_content}
-use Rattle.edit_journal.specs.Texts.{BeginsWith, HasNoRecord, IsTorn, IsDamaged}
+use Rattle.edit_journal.specs.JournalTexts.{BeginsWithRecord, HasNoRecord, IsTorn, IsDamaged}
 use Rattle.edit_journal.specs.declared.field_parsers.FieldError.TheVariants.{Open, Wrong}
-use Rattle.edit_journal.specs.inner.PartReaders.{Reads, Record, padded_u32}
+use Rattle.edit_journal.specs.inner.RecordParts.{ReadsPart, IsRecordOf, padded_u32}
 use Rattle.std.specs.Int.{w32, to_be_bytes}
 use Rattle.edit_journal.proofs.Blocks.{block_is}
 use Rattle.edit_journal.proofs.Lengths.{record_length}
@@ -12,25 +12,25 @@ use Rattle.edit_journal.proofs.Numbers.{number_there}
 use Rattle.edit_journal.proofs.CompleteRequests.{no_record_in}
 
 -- the length of the record at the front
-record_len_is : (request : Request) (bytes rest : List ℕ) → BeginsWith bytes request rest → 4 + padded_u32 bytes 0 ≡ length (record_of request)
+record_len_is : (request : Request) (bytes rest : List ℕ) → BeginsWithRecord bytes request rest → 4 + padded_u32 bytes 0 ≡ length (record_of request)
 record_len_is request bytes rest (told, split) =
     let number : padded_u32 bytes 0 ≡ length (record_content request) = number_there bytes (length (record_content request)) (record_content request ++ rest) (omega (arith, told.0.short))
     (split ∙ ap (λ l. l ++ rest) (block_is (record_content request)) ∙ append_assoc (to_be_bytes w32 (length (record_content request))) (record_content request) rest) in
     omega (arith, record_length request)
 
-pub front_whole : (bytes : List ℕ) (request : Request) → Reads (λ (r : Request). r) Record bytes (Ok request)
-    → (rest : List ℕ) × BeginsWith bytes request rest × (4 + padded_u32 bytes 0 ≡ length (record_of request))
+pub front_whole : (bytes : List ℕ) (request : Request) → ReadsPart (λ (r : Request). r) IsRecordOf bytes (Ok request)
+    → (rest : List ℕ) × BeginsWithRecord bytes request rest × (4 + padded_u32 bytes 0 ≡ length (record_of request))
 front_whole bytes request (front, rest, split, (told, is)) =
-    let begins : BeginsWith bytes request rest = (told, split ∙ ap (λ l. l ++ rest) is) in
+    let begins : BeginsWithRecord bytes request rest = (told, split ∙ ap (λ l. l ++ rest) is) in
     (rest, begins, record_len_is request bytes rest begins)
 
-pub front_torn : (bytes : List ℕ) → Reads (λ (r : Request). r) Record bytes (Err Open) → HasNoRecord bytes × IsTorn bytes
+pub front_torn : (bytes : List ℕ) → ReadsPart (λ (r : Request). r) IsRecordOf bytes (Err Open) → HasNoRecord bytes × IsTorn bytes
 front_torn bytes (more, request, longer, (told, is)) = (
   no_record_in bytes more request told (sym is) (omega (arith, ap length is, length-append bytes more)),
   (request, told, omega (arith, ap length is, length-append bytes more), (more, sym is)),
 )
 
-pub front_damaged : (bytes : List ℕ) → Reads (λ (r : Request). r) Record bytes (Err Wrong) → IsDamaged bytes
+pub front_damaged : (bytes : List ℕ) → ReadsPart (λ (r : Request). r) IsRecordOf bytes (Err Wrong) → IsDamaged bytes
 front_damaged bytes wrong = (
   (λ request rest begins. wrong (record_of request) request [] rest (begins.0, refl) (append-nil bytes ∙ begins.1)),
   (λ torn. wrong (record_of torn.0) torn.0 torn.3.0 [] (torn.1, refl) (sym torn.3.1 ∙ sym (append-nil (record_of torn.0)))),

@@ -1,6 +1,6 @@
 -- One call on a journal after another.
 use Rattle.std.proofs.Common.{◌≡◌, ◌⊎◌, inl, inr, refl, ◌∙◌, arith}
-use Rattle.xcap_io.specs.Causes.{CountRises}
+use Rattle.xcap_io.specs.StreamStates.{CountRises}
 use Rattle.edit_journal.specs.Journals.{JournalState, IsJournalProgress}
 
 pub goes_none : (journal : JournalState) → IsJournalProgress journal journal

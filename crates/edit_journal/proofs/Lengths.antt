@@ -10,23 +10,23 @@ use Rattle.std.specs.Str.{IsAscii}
 use Rattle.httparse.specs.Grammar.{IsToken, is_token_byte, AllPass}
 use Rattle.http_wire.specs.declared.request.Field.{Field}
 use Rattle.http_wire.specs.declared.request.Request.{Request}
-use Rattle.edit_journal.specs.Records.{block, field_text, record_content, record_of}
-use Rattle.edit_journal.specs.inner.WritableParts.{IsWritable}
+use Rattle.edit_journal.specs.Records.{length_prefixed, field_text, record_content, record_of}
+use Rattle.edit_journal.specs.inner.WritableFields.{IsWritableField}
 
-pub block_length : (bytes : List ℕ) → length (block bytes) ≡ 4 + length bytes
-unfolding block
+pub block_length : (bytes : List ℕ) → length (length_prefixed bytes) ≡ 4 + length bytes
+unfolding length_prefixed
 block_length bytes = grind arith
 
 pub field_length : (field : Field) → length (field_text field) ≡ 8 + (length field.name + length field.value)
 field_length field =
-    omega (arith, length-append (block field.name) (block field.value), block_length field.name, block_length field.value)
+    omega (arith, length-append (length_prefixed field.name) (length_prefixed field.value), block_length field.name, block_length field.value)
 
 pub content_length : (request : Request) → length (record_content request) ≡ 11 + (length request.target + (length (flat_map field_text request.fields) + length request.body))
 content_length request =
     omega (
       arith,
-      length-append (block request.target) (to_be_bytes w16 (length request.fields) ++ (flat_map field_text request.fields ++ block request.body)),
-      length-append (flat_map field_text request.fields) (block request.body),
+      length-append (length_prefixed request.target) (to_be_bytes w16 (length request.fields) ++ (flat_map field_text request.fields ++ length_prefixed request.body)),
+      length-append (flat_map field_text request.fields) (length_prefixed request.body),
       block_length request.target,
       block_length request.body,
     )
@@ -49,12 +49,12 @@ name_ascii : (name : List ℕ) → AllPass is_token_byte name → IsAscii name
 name_ascii name h = IsAscii-from_all name (λ k d within. token_ascii (get_or name k d) (h k d within))
 
 -- fields of a record can be written
-pub fields_writable : (fields : List Field) → All (λ (field : Field). IsToken field.name) fields → length (flat_map field_text fields) < 2 ^ 32 → All IsWritable fields
-fields_writable [] tokens short = All-nil IsWritable
+pub fields_writable : (fields : List Field) → All (λ (field : Field). IsToken field.name) fields → length (flat_map field_text fields) < 2 ^ 32 → All IsWritableField fields
+fields_writable [] tokens short = All-nil IsWritableField
 fields_writable (field ∷ fields) tokens short =
     let here : length (flat_map field_text (field ∷ fields)) ≡ length (field_text field) + length (flat_map field_text fields) = length-append (field_text field) (flat_map field_text fields) in
     let size = field_length field in
-    All-cons IsWritable field fields
+    All-cons IsWritableField field fields
     (record {
       ascii = name_ascii field.name (All-head (λ (field : Field). IsToken field.name) field fields tokens).1;
       name = omega arith;

@@ -13,13 +13,13 @@ use Rattle.http_wire.specs.declared.framing.Framing.TheVariants.{Bad, Coded, Too
 use Rattle.http_wire.specs.declared.request.Field.{Field as SentField}
 use Rattle.http_wire.specs.declared.request.Request.{Request}
 use Rattle.http_wire.specs.Fields.{is_number}
-use Rattle.http_wire.specs.Framing.{coding_by, framing, length_by}
+use Rattle.http_wire.specs.Framing.{framing_of_codings, framing, framing_of_lengths}
 use Rattle.http_wire.specs.Heads.{BeginsWithHead}
 use Rattle.http_wire.specs.ChunkedBodies.{chunk_data}
-use Rattle.http_wire.specs.Items.{AsksFor, field_of, in_chunks, request_of, with_length}
+use Rattle.http_wire.specs.ConnectionItems.{AsksFor, field_of, in_chunks, request_of, with_length}
 use Rattle.edit_journal.specs.Records.{IsRecordable, field_text, method_number}
 use Rattle.edit_journal.proofs.Lengths.{content_length, field_length}
-use Rattle.http_serve.specs.ReadRequests.{IsRead}
+use Rattle.http_serve.specs.ReadRequests.{IsReadRequest}
 use Rattle.edit_journal.specs.LoggedRequests.{IsLoggable}
 
 -- ---- values are no longer than the sent bytes
@@ -85,8 +85,8 @@ by_value true short value n le e = let no : ⊥ = cc in absurd no
 by_value false true value n le e = let is : value ≡ n = cc in omega (arith, le refl, is)
 by_value false false value n le e = let no : ⊥ = cc in absurd no
 
-length_bounded : (values : List (List ℕ)) (n : ℕ) → length_by values ≡ Length n → n ≤ 262_144
-unfolding length_by
+length_bounded : (values : List (List ℕ)) (n : ℕ) → framing_of_lengths values ≡ Length n → n ≤ 262_144
+unfolding framing_of_lengths
 length_bounded [] n e = let is : 0 ≡ n = cc in omega (arith, is)
 length_bounded (value ∷ []) n e = by_value (not (is_number value)) (nat_le (digits_value 10 value) 262_144) (digits_value 10 value) n (λ h. grind (arith, nat_tests)) e
 length_bounded (value ∷ other ∷ more) n e = let no : ⊥ = cc in absurd no
@@ -96,8 +96,8 @@ by_coding true bad n e = let no : ⊥ = cc in absurd no
 by_coding false true n e = let no : ⊥ = cc in absurd no
 by_coding false false n e = let no : ⊥ = cc in absurd no
 
-coded_bounded : (minor : ℕ) (codings lengths : List (List ℕ)) (n : ℕ) → coding_by minor codings lengths ≡ Length n → n ≤ 262_144
-unfolding coding_by
+coded_bounded : (minor : ℕ) (codings lengths : List (List ℕ)) (n : ℕ) → framing_of_codings minor codings lengths ≡ Length n → n ≤ 262_144
+unfolding framing_of_codings
 coded_bounded minor [] lengths n e = length_bounded lengths n e
 coded_bounded minor (coding ∷ []) lengths n e = by_coding _ _ n e
 coded_bounded minor (coding ∷ other ∷ more) lengths n e = let no : ⊥ = cc in absurd no
@@ -130,5 +130,5 @@ by_kind before bytes request rest (with_length head body opens is) =
     subst IsLoggable (sym is) (recordable before bytes (body ++ rest) head body opens.begins (framed_bounded head.minor (map name_and_value head.fields) (length body) opens.framed))
 by_kind before bytes request rest (in_chunks head behind body opens reads short is) = subst IsLoggable (sym is) (recordable before bytes behind head (chunk_data body.chunks) opens.begins short)
 
-pub loggable : (request : Request) → IsRead request → IsLoggable request
+pub loggable : (request : Request) → IsReadRequest request → IsLoggable request
 loggable request read = by_kind read.before read.bytes request read.rest read.asked

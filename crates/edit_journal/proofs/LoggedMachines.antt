@@ -3,20 +3,20 @@ use Rattle.std.proofs.Common.{◌≡◌, ℕ, suc, ◌+◌, Result, Ok, Err, Opt
 use Rattle.reply_text.specs.ReplyHeads.{SentReply}
 use Rattle.http_wire.specs.declared.request.Request.{Request}
 use Rattle.edit_journal.specs.Journals.{IsJournalProgress}
-use Rattle.edit_journal.specs.Logs.{Fits, LogState}
+use Rattle.edit_journal.specs.JournalLogs.{LogFitsJournal, LogState}
 use Rattle.edit_journal.proofs.Lengths.{record_length}
 use Rattle.http_serve.specs.declared.machine.MachineReply.{MachineReply}
-use Rattle.edit_journal.specs.LoggedRequests.{Answers, stays, entered, not_entered}
-use Rattle.edit_journal.specs.Ports.{HasRoom}
-use Rattle.edit_journal.specs.inner.JournaledMachines.{Wrapped, WrappedStep}
+use Rattle.edit_journal.specs.LoggedRequests.{AnswersWithJournal, stays, entered, not_entered}
+use Rattle.edit_journal.specs.LoggedPorts.{HasRoomForRecords}
+use Rattle.edit_journal.specs.inner.JournaledMachines.{JournaledMachineState, JournaledMachineStep}
 
-same_len : (log log' : LogState) (n : ℕ) → log'.len ≡ log.len → HasRoom log (suc n) → HasRoom log' n
+same_len : (log log' : LogState) (n : ℕ) → log'.len ≡ log.len → HasRoomForRecords log (suc n) → HasRoomForRecords log' n
 same_len log log' n is h = omega (arith, is, h)
 
-module _ {M E : Type 0} (Step : M → Request → SentReply → M → Option E → Type 0) (old new : Wrapped M) (request : Request) where
+module _ {M E : Type 0} (Step : M → Request → SentReply → M → Option E → Type 0) (old new : JournaledMachineState M) (request : Request) where
   -- the log grows by at most one record for a request
-  room_after : (reply : SentReply) (edit : Option E) → Answers Step (record { machine = old.machine; log = old.log; journal = old.journal }) request reply (record { machine = new.machine; log = new.log; journal = new.journal }) edit
-      → (n : ℕ) → HasRoom old.log (suc n) → HasRoom new.log n
+  room_after : (reply : SentReply) (edit : Option E) → AnswersWithJournal Step (record { machine = old.machine; log = old.log; journal = old.journal }) request reply (record { machine = new.machine; log = new.log; journal = new.journal }) edit
+      → (n : ℕ) → HasRoomForRecords old.log (suc n) → HasRoomForRecords new.log n
   room_after reply edit (stays none step same log journal) n h = same_len old.log new.log n (ap (λ (l : LogState). l.len) log) h
   room_after reply edit (entered made is step can adds) n h =
       let len : new.log.len ≡ old.log.len + _ = ap (λ (l : LogState). l.len) adds.0 in
@@ -24,15 +24,15 @@ module _ {M E : Type 0} (Step : M → Request → SentReply → M → Option E �
   room_after reply edit (not_entered none accepts is same can adds) n h = same_len old.log new.log n (ap (λ (l : LogState). l.len) adds.0) h
 
   -- whatever the reply
-  pub takes_after : {R : Type 0} (P Q : Type 0) (r : Result (MachineReply E) R) → IfOk r (λ a. Answers Step (record { machine = old.machine; log = old.log; journal = old.journal }) request a.reply (record { machine = new.machine; log = new.log; journal = new.journal }) a.edit)
-      → OnErr r (P × (new.log ≡ old.log) × Q) → Fits new.log new.journal → (n : ℕ) → Fits old.log old.journal × HasRoom old.log (suc n) → Fits new.log new.journal × HasRoom new.log n
+  pub takes_after : {R : Type 0} (P Q : Type 0) (r : Result (MachineReply E) R) → IfOk r (λ a. AnswersWithJournal Step (record { machine = old.machine; log = old.log; journal = old.journal }) request a.reply (record { machine = new.machine; log = new.log; journal = new.journal }) a.edit)
+      → OnErr r (P × (new.log ≡ old.log) × Q) → LogFitsJournal new.log new.journal → (n : ℕ) → LogFitsJournal old.log old.journal × HasRoomForRecords old.log (suc n) → LogFitsJournal new.log new.journal × HasRoomForRecords new.log n
   takes_after P Q (Ok a) answers same fits n h = (fits, room_after a.reply a.edit answers n h.1)
   takes_after P Q (Err e) answers same fits n h = (fits, same_len old.log new.log n (ap (λ (l : LogState). l.len) same.1) h.1)
 
   -- the reply is a step
-  pub step_after : {R : Type 0} (r : Result (MachineReply E) R) → IfOk r (λ a. Answers Step (record { machine = old.machine; log = old.log; journal = old.journal }) request a.reply (record { machine = new.machine; log = new.log; journal = new.journal }) a.edit)
-      → IsJournalProgress old.journal new.journal → Fits new.log new.journal → new.machine_name ≡ old.machine_name → new.log_name ≡ old.log_name → new.journal_name ≡ old.journal_name
-      → IfOk r (λ a. WrappedStep Step old request a.reply new a.edit)
+  pub step_after : {R : Type 0} (r : Result (MachineReply E) R) → IfOk r (λ a. AnswersWithJournal Step (record { machine = old.machine; log = old.log; journal = old.journal }) request a.reply (record { machine = new.machine; log = new.log; journal = new.journal }) a.edit)
+      → IsJournalProgress old.journal new.journal → LogFitsJournal new.log new.journal → new.machine_name ≡ old.machine_name → new.log_name ≡ old.log_name → new.journal_name ≡ old.journal_name
+      → IfOk r (λ a. JournaledMachineStep Step old request a.reply new a.edit)
   step_after (Ok a) answers goes fits machine log journal = record {
     answers = answers;
     goes = goes;

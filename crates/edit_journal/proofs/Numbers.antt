@@ -2,7 +2,7 @@
 use Rattle.std.proofs.Common.{◌≡◌, ℕ, ◌+◌, ◌*◌, ◌/◌, ◌%◌, ◌-◌, ◌<◌, ◌≤◌, ◌^◌, ◌⊎◌, inl, inr, List, [], ◌∷◌, ◌++◌, length, get_or, Ok, Err, refl, ap, ◌∙◌, arith}
 use Rattle.std.specs.Int.{w16, w32, to_be_bytes}
 use Rattle.edit_journal.specs.declared.field_parsers.FieldError.TheVariants.{Open, Wrong}
-use Rattle.edit_journal.specs.inner.PartReaders.{Reads, Number, Short, padded_u32, padded_u16}
+use Rattle.edit_journal.specs.inner.RecordParts.{ReadsPart, IsU32Between, IsU16Between, padded_u32, padded_u16}
 
 -- every member is a byte
 abbrev pub AreBytes : List ℕ → Type 0
@@ -44,12 +44,12 @@ number_there (a ∷ b ∷ c ∷ d ∷ bytes) value rest fits e =
     let s : d ≡ value % 256 = cc in
     omega arith
 
-pub number_wrong : (bytes : List ℕ) (least most : ℕ) → most < 2 ^ 32 → (padded_u32 bytes 255 < least) ⊎ (most < padded_u32 bytes 0) → Reads (λ n. n) (Number least most) bytes (Err Wrong)
+pub number_wrong : (bytes : List ℕ) (least most : ℕ) → most < 2 ^ 32 → (padded_u32 bytes 255 < least) ⊎ (most < padded_u32 bytes 0) → ReadsPart (λ n. n) (IsU32Between least most) bytes (Err Wrong)
 number_wrong bytes least most fits out all value more rest is e =
     let between = number_between bytes more rest value (omega (arith, is.2)) (e ∙ ap (λ l. l ++ rest) is.0) in
     elim out [ inl low ↦ omega (arith, is.1, between.1) | inr high ↦ omega (arith, is.2, between.0) ]
 
-pub number_whole : (bytes : List ℕ) (least most : ℕ) → AreBytes bytes → 4 ≤ length bytes → least ≤ padded_u32 bytes 255 → padded_u32 bytes 0 ≤ most → Reads (λ n. n) (Number least most) bytes (Ok (padded_u32 bytes 0))
+pub number_whole : (bytes : List ℕ) (least most : ℕ) → AreBytes bytes → 4 ≤ length bytes → least ≤ padded_u32 bytes 255 → padded_u32 bytes 0 ≤ most → ReadsPart (λ n. n) (IsU32Between least most) bytes (Ok (padded_u32 bytes 0))
 number_whole [] least most are long low high = absurd (omega arith)
 number_whole (a ∷ []) least most are long low high = absurd (omega arith)
 number_whole (a ∷ b ∷ []) least most are long low high = absurd (omega arith)
@@ -62,7 +62,7 @@ number_whole (a ∷ b ∷ c ∷ d ∷ bytes) least most are long low high =
     let s : d ≡ value % 256 = omega (arith, are 0, are 1, are 2, are 3) in
     (a ∷ b ∷ c ∷ d ∷ [], bytes, refl, ((λ i. p i ∷ q i ∷ r i ∷ s i ∷ []), low, high))
 
-pub number_open : (bytes : List ℕ) (least most : ℕ) → AreBytes bytes → length bytes < 4 → least ≤ most → most < 2 ^ 32 → least ≤ padded_u32 bytes 255 → padded_u32 bytes 0 ≤ most → Reads (λ n. n) (Number least most) bytes (Err Open)
+pub number_open : (bytes : List ℕ) (least most : ℕ) → AreBytes bytes → length bytes < 4 → least ≤ most → most < 2 ^ 32 → least ≤ padded_u32 bytes 255 → padded_u32 bytes 0 ≤ most → ReadsPart (λ n. n) (IsU32Between least most) bytes (Err Open)
 number_open [] least most are short some fits low high =
     (to_be_bytes w32 least, least, omega arith, (refl, omega arith, some))
 number_open (a ∷ []) least most are short some fits low high =
@@ -92,12 +92,12 @@ short_between (a ∷ b ∷ bytes) more rest value fits e =
     let q : b ≡ value % 256 = cc in
     (omega arith, omega arith)
 
-pub short_wrong : (bytes : List ℕ) (least most : ℕ) → most < 2 ^ 16 → (padded_u16 bytes 255 < least) ⊎ (most < padded_u16 bytes 0) → Reads (λ n. n) (Short least most) bytes (Err Wrong)
+pub short_wrong : (bytes : List ℕ) (least most : ℕ) → most < 2 ^ 16 → (padded_u16 bytes 255 < least) ⊎ (most < padded_u16 bytes 0) → ReadsPart (λ n. n) (IsU16Between least most) bytes (Err Wrong)
 short_wrong bytes least most fits out all value more rest is e =
     let between = short_between bytes more rest value (omega (arith, is.2)) (e ∙ ap (λ l. l ++ rest) is.0) in
     elim out [ inl low ↦ omega (arith, is.1, between.1) | inr high ↦ omega (arith, is.2, between.0) ]
 
-pub short_whole : (bytes : List ℕ) (least most : ℕ) → AreBytes bytes → 2 ≤ length bytes → least ≤ padded_u16 bytes 255 → padded_u16 bytes 0 ≤ most → Reads (λ n. n) (Short least most) bytes (Ok (padded_u16 bytes 0))
+pub short_whole : (bytes : List ℕ) (least most : ℕ) → AreBytes bytes → 2 ≤ length bytes → least ≤ padded_u16 bytes 255 → padded_u16 bytes 0 ≤ most → ReadsPart (λ n. n) (IsU16Between least most) bytes (Ok (padded_u16 bytes 0))
 short_whole [] least most are long low high = absurd (omega arith)
 short_whole (a ∷ []) least most are long low high = absurd (omega arith)
 short_whole (a ∷ b ∷ bytes) least most are long low high =
@@ -106,7 +106,7 @@ short_whole (a ∷ b ∷ bytes) least most are long low high =
     let q : b ≡ value % 256 = omega (arith, are 0, are 1) in
     (a ∷ b ∷ [], bytes, refl, ((λ i. p i ∷ q i ∷ []), low, high))
 
-pub short_open : (bytes : List ℕ) (least most : ℕ) → AreBytes bytes → length bytes < 2 → least ≤ most → most < 2 ^ 16 → least ≤ padded_u16 bytes 255 → padded_u16 bytes 0 ≤ most → Reads (λ n. n) (Short least most) bytes (Err Open)
+pub short_open : (bytes : List ℕ) (least most : ℕ) → AreBytes bytes → length bytes < 2 → least ≤ most → most < 2 ^ 16 → least ≤ padded_u16 bytes 255 → padded_u16 bytes 0 ≤ most → ReadsPart (λ n. n) (IsU16Between least most) bytes (Err Open)
 short_open [] least most are short some fits low high = (to_be_bytes w16 least, least, omega arith, (refl, omega arith, some))
 short_open (a ∷ []) least most are short some fits low high =
     let value : ℕ = a * 256 + (least - a * 256) in

@@ -2,22 +2,22 @@
 use Rattle.std.proofs.Common.{◌≡◌, ℕ, List, [], ◌∷◌, ◌++◌, take, All, Result, Ok, Err, sym, ap, ◌∙◌, append-nil, append_assoc}
 use Rattle.std.proofs.lemmas.List.Elements.{All-nil, All-cons}
 use Rattle.http_wire.specs.declared.request.Request.{Request}
-use Rattle.edit_journal.specs.Journals.{IsFirstOf}
-use Rattle.edit_journal.specs.Logs.{LogState}
+use Rattle.edit_journal.specs.Journals.{IsPrefixOf}
+use Rattle.edit_journal.specs.JournalLogs.{LogState}
 use Rattle.edit_journal.specs.Records.{record_of}
 use Rattle.edit_journal.specs.declared.limits.TheConstants.{MAX_JOURNAL_BYTES}
-use Rattle.edit_journal.specs.Restarts.{RestartState, Restarts}
-use Rattle.edit_journal.specs.Texts.{text, BeginsWith, HasNoRecord, IsDamaged, IsRecordedRequest}
+use Rattle.edit_journal.specs.Restarts.{RestartState, RestartsReplayer}
+use Rattle.edit_journal.specs.JournalTexts.{journal_text, BeginsWithRecord, HasNoRecord, IsDamaged, IsRecordedRequest}
 use Rattle.edit_journal.specs.declared.journal_restart.RestartFault.{RestartFault}
 use Rattle.edit_journal.specs.declared.journal_restart.RestartFault.TheVariants.{ReadFailed, AppendFailed, Damaged, Refused, TooLong, NoMemory}
-use Rattle.edit_journal.specs.JournalPrefixes.{BreaksOff}
-use Rattle.edit_journal.specs.PrefixRestarts.{EndsAfter}
+use Rattle.edit_journal.specs.JournalPrefixes.{IsJournalPrefix}
+use Rattle.edit_journal.specs.PrefixRestarts.{RestartEndsAfter}
 use Rattle.edit_journal.proofs.Beginnings.{begin_alike}
 use Rattle.edit_journal.proofs.Broken.{breaks_off, is_torn}
 
 -- The bytes, a prefix of the text of all requests, begin with the records of these.
-module _ (all requests : List Request) (bytes rest : List ℕ) (told : All IsRecordedRequest all) (begins : IsFirstOf bytes (text all)) (told' : All IsRecordedRequest requests) (split : bytes ≡ text requests ++ rest) where
-  whole : HasNoRecord rest → (left : List Request) × BreaksOff all bytes requests left rest
+module _ (all requests : List Request) (bytes rest : List ℕ) (told : All IsRecordedRequest all) (begins : IsPrefixOf bytes (journal_text all)) (told' : All IsRecordedRequest requests) (split : bytes ≡ journal_text requests ++ rest) where
+  whole : HasNoRecord rest → (left : List Request) × IsJournalPrefix all bytes requests left rest
   whole none = let broken = breaks_off all requests bytes rest told begins (record { told = told'; split = split; no_more = none }) in (broken.0, broken.1)
 
   undamaged : ¬ (IsDamaged rest)
@@ -25,23 +25,23 @@ module _ (all requests : List Request) (bytes rest : List ℕ) (told : All IsRec
       let broken = breaks_off all requests bytes rest told begins (record { told = told'; split = split; no_more = none }) in
       not_torn (is_torn broken.0 rest broken.2 broken.1.torn)
 
-  alike : (left : List Request) × (all ≡ requests ++ left) × (text left ≡ rest ++ begins.0) × All IsRecordedRequest left
-  alike = begin_alike requests all (rest ++ begins.0) told' told (begins.1 ∙ ap (λ l. l ++ begins.0) split ∙ append_assoc (text requests) rest begins.0)
+  alike : (left : List Request) × (all ≡ requests ++ left) × (journal_text left ≡ rest ++ begins.0) × All IsRecordedRequest left
+  alike = begin_alike requests all (rest ++ begins.0) told' told (begins.1 ∙ ap (λ l. l ++ begins.0) split ∙ append_assoc (journal_text requests) rest begins.0)
 
   first : (left : List Request) × (all ≡ requests ++ left)
   first = (alike.0, alike.1)
 
-  next : (request : Request) (more : List ℕ) → BeginsWith rest request more → (others : List Request) × (alike.0 ≡ request ∷ others)
+  next : (request : Request) (more : List ℕ) → BeginsWithRecord rest request more → (others : List Request) × (alike.0 ≡ request ∷ others)
   next request more (one, is) =
-      let front : text alike.0 ≡ text (request ∷ []) ++ (more ++ begins.0) =
+      let front : journal_text alike.0 ≡ journal_text (request ∷ []) ++ (more ++ begins.0) =
       alike.2 ∙ ap (λ l. l ++ begins.0) is ∙ append_assoc (record_of request) more begins.0 ∙ ap (λ l. l ++ (more ++ begins.0)) (sym (append-nil (record_of request))) in
       let others = begin_alike (request ∷ []) alike.0 (more ++ begins.0) (All-cons IsRecordedRequest request [] one (All-nil IsRecordedRequest)) alike.3 front in
       (others.0, others.1)
 
 module _ {S : Type 0} (stands : S → List Request → Type 0) (refuses : S → Request → Type 0) where
   pub ends_behind : (all : List Request) (old new : RestartState S) (result : Result LogState RestartFault) → All IsRecordedRequest all
-      → (restarts : Restarts stands refuses old new result) → IsFirstOf (take MAX_JOURNAL_BYTES restarts.bytes) (text all)
-      → (left : List Request) × EndsAfter refuses (record { all = all; bytes = take MAX_JOURNAL_BYTES restarts.bytes; done = restarts.requests; left = left; rest = restarts.rest }) new.replayer result
+      → (restarts : RestartsReplayer stands refuses old new result) → IsPrefixOf (take MAX_JOURNAL_BYTES restarts.bytes) (journal_text all)
+      → (left : List Request) × RestartEndsAfter refuses (record { all = all; bytes = take MAX_JOURNAL_BYTES restarts.bytes; done = restarts.requests; left = left; rest = restarts.rest }) new.replayer result
   ends_behind all old new (Ok log) told r begins = whole all r.requests (take MAX_JOURNAL_BYTES r.bytes) r.rest told begins r.told r.split r.ending.2
   ends_behind all old new (Err ReadFailed) told r begins = whole all r.requests (take MAX_JOURNAL_BYTES r.bytes) r.rest told begins r.told r.split r.ending.1
   ends_behind all old new (Err AppendFailed) told r begins = first all r.requests (take MAX_JOURNAL_BYTES r.bytes) r.rest told begins r.told r.split

@@ -7,56 +7,56 @@ use Rattle.std.specs.Bool.{MatchBool}
 use Rattle.http_wire.specs.declared.request.Request.{Request}
 use Rattle.edit_journal.specs.declared.journal_log.AppendFault.{AppendFault}
 use Rattle.edit_journal.specs.declared.journal_log.AppendFault.TheVariants.{Failed, NoMemory}
-use Rattle.edit_journal.specs.Records.{record_of, recorded, IsRecordable}
-use Rattle.edit_journal.specs.Texts.{text, IsRecordedRequest}
-use Rattle.edit_journal.specs.Journals.{JournalState, IsFirstOf}
-use Rattle.edit_journal.specs.Logs.{LogState, HoldsRecords, KeepsWhole, AddsRecord, with_request, log_with}
+use Rattle.edit_journal.specs.Records.{record_of, recorded_request, IsRecordable}
+use Rattle.edit_journal.specs.JournalTexts.{journal_text, IsRecordedRequest}
+use Rattle.edit_journal.specs.Journals.{JournalState, IsPrefixOf}
+use Rattle.edit_journal.specs.JournalLogs.{LogState, HoldsRecords, KeepsCompleteRecords, AddsRecord, with_request, log_with_record}
 
-pub text-append : (xs ys : List Request) → text (xs ++ ys) ≡ text xs ++ text ys
-text-append [] ys = refl
-text-append (x ∷ xs) ys = ap (λ l. record_of x ++ l) (text-append xs ys) ∙ sym (append_assoc (record_of x) (text xs) (text ys))
+pub journal_text-append : (xs ys : List Request) → journal_text (xs ++ ys) ≡ journal_text xs ++ journal_text ys
+journal_text-append [] ys = refl
+journal_text-append (x ∷ xs) ys = ap (λ l. record_of x ++ l) (journal_text-append xs ys) ∙ sym (append_assoc (record_of x) (journal_text xs) (journal_text ys))
 
-pub text_one_more : (requests : List Request) (request : Request) → text (requests ++ recorded request ∷ []) ≡ text requests ++ record_of request
-text_one_more requests request = text-append requests (recorded request ∷ []) ∙ ap (λ l. text requests ++ l) (append-nil (record_of request))
+pub text_one_more : (requests : List Request) (request : Request) → journal_text (requests ++ recorded_request request ∷ []) ≡ journal_text requests ++ record_of request
+text_one_more requests request = journal_text-append requests (recorded_request request ∷ []) ∙ ap (λ l. journal_text requests ++ l) (append-nil (record_of request))
 
-pub is_told : (request : Request) → IsRecordable request → IsRecordedRequest (recorded request)
+pub is_told : (request : Request) → IsRecordable request → IsRecordedRequest (recorded_request request)
 is_told request can = (record { method = can.method; names = can.names; few = can.few; body = can.body; short = can.short }, refl)
 
 -- a record, or a prefix of one
 abbrev BeginsRecord : List ℕ → Type 0
-BeginsRecord bytes = (request : Request) × IsRecordedRequest request × IsFirstOf bytes (record_of request)
+BeginsRecord bytes = (request : Request) × IsRecordedRequest request × IsPrefixOf bytes (record_of request)
 
 -- the complete records are a prefix of the bytes
-pub whole_first : (log : LogState) (requests : List Request) (bytes : List ℕ) (holds : HoldsRecords log requests bytes) → take log.len bytes ≡ text requests
+pub whole_first : (log : LogState) (requests : List Request) (bytes : List ℕ) (holds : HoldsRecords log requests bytes) → take log.len bytes ≡ journal_text requests
 whole_first log requests bytes holds =
-    ap (λ n. take n bytes) (sym holds.len) ∙ ap (take (length (text requests))) holds.split ∙ take-append_seam (text requests) holds.rest
+    ap (λ n. take n bytes) (sym holds.len) ∙ ap (take (length (journal_text requests))) holds.split ∙ take-append_seam (journal_text requests) holds.rest
 
 pub behind_whole : (log : LogState) (requests : List Request) (bytes : List ℕ) (holds : HoldsRecords log requests bytes) → drop log.len bytes ≡ holds.rest
 behind_whole log requests bytes holds =
-    ap (λ n. drop n bytes) (sym holds.len) ∙ ap (drop (length (text requests))) holds.split
-    ∙ drop-append-le (length (text requests)) (text requests) holds.rest (omega arith)
-    ∙ ap (λ l. l ++ holds.rest) (drop_all (length (text requests)) (text requests) (omega arith))
+    ap (λ n. drop n bytes) (sym holds.len) ∙ ap (drop (length (journal_text requests))) holds.split
+    ∙ drop-append-le (length (journal_text requests)) (journal_text requests) holds.rest (omega arith)
+    ∙ ap (λ l. l ++ holds.rest) (drop_all (length (journal_text requests)) (journal_text requests) (omega arith))
 
 -- what comes after the complete records begins one, or is empty
 behind_begins : (is_torn : Bool) (request : Request) (rest : List ℕ) → IsRecordable request → MatchBool is_torn (BeginsRecord rest) (rest ≡ []) → BeginsRecord rest
 behind_begins true request rest can behind = behind
-behind_begins false request rest can behind = (recorded request, is_told request can, (record_of request, ap (λ l. l ++ record_of request) (sym behind)))
+behind_begins false request rest can behind = (recorded_request request, is_told request can, (record_of request, ap (λ l. l ++ record_of request) (sym behind)))
 
 -- a prefix of what begins a record begins it
-begins_too : (bytes all : List ℕ) → IsFirstOf bytes all → BeginsRecord all → BeginsRecord bytes
+begins_too : (bytes all : List ℕ) → IsPrefixOf bytes all → BeginsRecord all → BeginsRecord bytes
 begins_too bytes all p q = (q.0, q.1, (p.0 ++ q.2.0, q.2.1 ∙ ap (λ l. l ++ q.2.0) p.1 ∙ append_assoc bytes p.0 q.2.0))
 
 holds_added : (log : LogState) (request : Request) (requests : List Request) (old new : List ℕ) → IsRecordable request → new ≡ take log.len old ++ record_of request → HoldsRecords log requests old
-    → HoldsRecords (log_with log (record_of request)) (requests ++ recorded request ∷ []) new
+    → HoldsRecords (log_with_record log (record_of request)) (requests ++ recorded_request request ∷ []) new
 holds_added log request requests old new can behind holds = record {
   rest = [];
-  told = All-append IsRecordedRequest requests (recorded request ∷ []) holds.told (All-cons IsRecordedRequest (recorded request) [] (is_told request can) (All-nil IsRecordedRequest));
-  split = behind ∙ ap (λ l. l ++ record_of request) (whole_first log requests old holds) ∙ sym (text_one_more requests request) ∙ sym (append-nil (text (requests ++ recorded request ∷ [])));
-  len = ap length (text_one_more requests request) ∙ length-append (text requests) (record_of request) ∙ ap (λ n. n + length (record_of request)) holds.len;
+  told = All-append IsRecordedRequest requests (recorded_request request ∷ []) holds.told (All-cons IsRecordedRequest (recorded_request request) [] (is_told request can) (All-nil IsRecordedRequest));
+  split = behind ∙ ap (λ l. l ++ record_of request) (whole_first log requests old holds) ∙ sym (text_one_more requests request) ∙ sym (append-nil (journal_text (requests ++ recorded_request request ∷ [])));
+  len = ap length (text_one_more requests request) ∙ length-append (journal_text requests) (record_of request) ∙ ap (λ n. n + length (record_of request)) holds.len;
   behind = refl;
 }
 
-holds_kept : (log : LogState) (request : Request) (requests : List Request) (old new : List ℕ) → IsRecordable request → KeepsWhole log.len (record_of request) old new → HoldsRecords log requests old
+holds_kept : (log : LogState) (request : Request) (requests : List Request) (old new : List ℕ) → IsRecordable request → KeepsCompleteRecords log.len (record_of request) old new → HoldsRecords log requests old
     → HoldsRecords (record log { is_torn = true }) requests new
 holds_kept log request requests old new can kept holds = record {
   rest = kept.0;
@@ -64,8 +64,8 @@ holds_kept log request requests old new can kept holds = record {
   split = kept.1 ∙ ap (λ l. l ++ kept.0) (whole_first log requests old holds);
   len = holds.len;
   behind = elim kept.2 [
-    | inl p ↦ (recorded request, is_told request can, p)
-    | inr p ↦ begins_too kept.0 holds.rest (subst (IsFirstOf kept.0) (behind_whole log requests old holds) p) (behind_begins log.is_torn request holds.rest can holds.behind)
+    | inl p ↦ (recorded_request request, is_told request can, p)
+    | inr p ↦ begins_too kept.0 holds.rest (subst (IsPrefixOf kept.0) (behind_whole log requests old holds) p) (behind_begins log.is_torn request holds.rest can holds.behind)
   ];
 }
 
@@ -75,7 +75,7 @@ pub adding_keeps_records : (log log' : LogState) (journal journal' : JournalStat
     → IsRecordable request → AddsRecord (record { log = log; journal = journal }) (record_of request) result (record { log = log'; journal = journal' })
     → (requests : List Request) → HoldsRecords log requests journal.held → HoldsRecords log' (with_request result requests request) journal'.held
 adding_keeps_records log log' journal journal' request (Ok x) can adds requests holds =
-    subst (λ (m : LogState). HoldsRecords m (requests ++ recorded request ∷ []) journal'.held) (sym adds.0) (holds_added log request requests journal.held journal'.held can adds.1 holds)
+    subst (λ (m : LogState). HoldsRecords m (requests ++ recorded_request request ∷ []) journal'.held) (sym adds.0) (holds_added log request requests journal.held journal'.held can adds.1 holds)
 adding_keeps_records log log' journal journal' request (Err Failed) can adds requests holds =
     subst (λ (m : LogState). HoldsRecords m requests journal'.held) (sym adds.0) (holds_kept log request requests journal.held journal'.held can adds.1 holds)
 adding_keeps_records log log' journal journal' request (Err NoMemory) can adds requests holds =

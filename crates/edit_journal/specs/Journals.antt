@@ -1,7 +1,7 @@
 -- What contracts see of a journal, and what a call on it may change. This is the project's own.
 use Rattle.std.specs.Prelude.{◌≡◌, ℕ, ◌≤◌, ◌⊎◌, List, ◌++◌, take, Result, MatchResult}
 use Rattle.std.specs.Borrow.{GName}
-use Rattle.xcap_io.specs.Causes.{HiddenState, CountRises, Counts}
+use Rattle.xcap_io.specs.StreamStates.{HiddenState, CountRises, CountsFaults}
 
 -- A journal at one moment.
 pub record JournalState : Type 0 where
@@ -29,31 +29,31 @@ pub record IsJournalProgress (old new : JournalState) : Type 0 where
   pub same_aside : new.aside ≡ old.aside
 
 -- the bytes are a prefix of these, or all of them
-abbrev pub IsFirstOf : List ℕ → List ℕ → Type 0
-IsFirstOf bytes all = (more : List ℕ) × (all ≡ bytes ++ more)
+abbrev pub IsPrefixOf : List ℕ → List ℕ → Type 0
+IsPrefixOf bytes all = (more : List ℕ) × (all ≡ bytes ++ more)
 
 -- a prefix of the piece, perhaps empty or all of it, was appended
-abbrev pub AddsSome : List ℕ → List ℕ → List ℕ → Type 0
-AddsSome old new piece = (some : List ℕ) × IsFirstOf some piece × (new ≡ old ++ some)
+abbrev pub AppendsPrefix : List ℕ → List ℕ → List ℕ → Type 0
+AppendsPrefix old new piece = (some : List ℕ) × IsPrefixOf some piece × (new ≡ old ++ some)
 
 -- The piece was appended, or at a failure a prefix of it; it failed only where the fault counter
 -- rose.
-pub record Adds {E : Type 0} (old new : JournalState) (result : Result (Unit {0}) E)
+pub record AppendsPiece {E : Type 0} (old new : JournalState) (result : Result (Unit {0}) E)
     (piece : List ℕ) : Type 0 where
   pub added : MatchResult result (λ _. new.held ≡ old.held ++ piece) (λ _.
-      AddsSome old.held new.held piece)
-  pub counts : Counts old.faults new.faults result
+      AppendsPrefix old.held new.held piece)
+  pub counts : CountsFaults old.faults new.faults result
   pub goes : IsJournalProgress old new
 
 -- a prefix of what was there is kept, of at least n bytes
-abbrev pub KeepsAtLeast : List ℕ → List ℕ → ℕ → Type 0
-KeepsAtLeast old new len = (count : ℕ) × (len ≤ count) × (new ≡ take count old)
+abbrev pub KeepsFirstBytes : List ℕ → List ℕ → ℕ → Type 0
+KeepsFirstBytes old new len = (count : ℕ) × (len ≤ count) × (new ≡ take count old)
 
 -- The first `len` bytes were kept, or at a failure more of them; it failed only where the fault
 -- counter rose.
-pub record Cuts {E : Type 0} (old new : JournalState) (result : Result (Unit {0}) E)
+pub record TruncatesJournal {E : Type 0} (old new : JournalState) (result : Result (Unit {0}) E)
     (len : ℕ) : Type 0 where
   pub kept : MatchResult result (λ _. new.held ≡ take len old.held) (λ _.
-      KeepsAtLeast old.held new.held len)
-  pub counts : Counts old.faults new.faults result
+      KeepsFirstBytes old.held new.held len)
+  pub counts : CountsFaults old.faults new.faults result
   pub goes : IsJournalProgress old new

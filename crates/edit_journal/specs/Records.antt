@@ -17,24 +17,24 @@ method_number method =
     else if bytes_eq method (chars (codes "DELETE")) then 2 else 0
 
 -- a length in four bytes, the highest first, and that many bytes
-unfoldable pub block : List ℕ → List ℕ
-block bytes = to_be_bytes w32 (length bytes) ++ bytes
+unfoldable pub length_prefixed : List ℕ → List ℕ
+length_prefixed bytes = to_be_bytes w32 (length bytes) ++ bytes
 
 -- a field: its name and its value
 abbrev pub field_text : Field → List ℕ
-field_text field = block field.name ++ block field.value
+field_text field = length_prefixed field.name ++ length_prefixed field.value
 
 -- the method, the target, the number of fields in two bytes, the fields and the body
 abbrev pub record_content : Request → List ℕ
 record_content request =
     method_number request.method
-    ∷ (block request.target
+    ∷ (length_prefixed request.target
     ++ (to_be_bytes w16 (length request.fields)
-    ++ (flat_map field_text request.fields ++ block request.body)))
+    ++ (flat_map field_text request.fields ++ length_prefixed request.body)))
 
 -- The record of a request. Whether the connection ends after it isn't recorded.
 abbrev pub record_of : Request → List ℕ
-record_of request = block (record_content request)
+record_of request = length_prefixed (record_content request)
 
 -- The request has a record: a PUT or DELETE within the bounds.
 pub record IsRecordable (request : Request) : Type 0 where
@@ -45,5 +45,5 @@ pub record IsRecordable (request : Request) : Type 0 where
   pub short : length (record_content request) ≤ MAX_CONTENT_BYTES
 
 -- the request as its record gives it
-abbrev pub recorded : Request → Request
-recorded request = record request { closes = false }
+abbrev pub recorded_request : Request → Request
+recorded_request request = record request { closes = false }

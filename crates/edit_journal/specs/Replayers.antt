@@ -8,22 +8,22 @@ use Rattle.edit_journal.specs.declared.replayer.ReplayStep.TheVariants.{Done, Re
 -- requests that may have led to it, and refuses some requests.
 module _ {S : Type 0} (stands : S → List Request → Type 0) (refuses : S → Request → Type 0) where
   -- both states represent the same lists, and refuse the same requests
-  pub record MeansTheSame (old new : S) : Type 0 where
+  pub record IsEquivalentState (old new : S) : Type 0 where
     pub stands_too : (requests : List Request) → stands new requests ↔ stands old requests
     pub refuses_too : (request : Request) → refuses new request ↔ refuses old request
 
   -- After `Done` the state represents each list that it represented before, with the request at
   -- the end. `Refused` comes where it refuses the request, and `Done` only where it doesn't. After
   -- the other results its meaning is unchanged.
-  abbrev pub Redoes : S → Request → ReplayStep → S → Type 0
-  Redoes old request Done new =
+  abbrev pub ReplaysRequest : S → Request → ReplayStep → S → Type 0
+  ReplaysRequest old request Done new =
       ¬ (refuses old request)
       × ((requests : List Request) → stands old requests → stands new (requests ++ request ∷ []))
-  Redoes old request Refused new = refuses old request × MeansTheSame old new
-  Redoes old request NoMemory new = MeansTheSame old new
+  ReplaysRequest old request Refused new = refuses old request × IsEquivalentState old new
+  ReplaysRequest old request NoMemory new = IsEquivalentState old new
 
   -- the requests were replayed one after the other, and none was refused
-  abbrev pub RedoesAll : S → List Request → S → Type 0
-  RedoesAll old [] new = MeansTheSame old new
-  RedoesAll old (request ∷ requests) new =
-      (next : S) × Redoes old request Done next × RedoesAll next requests new
+  abbrev pub ReplaysRequests : S → List Request → S → Type 0
+  ReplaysRequests old [] new = IsEquivalentState old new
+  ReplaysRequests old (request ∷ requests) new =
+      (next : S) × ReplaysRequest old request Done next × ReplaysRequests next requests new

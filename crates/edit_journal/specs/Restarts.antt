@@ -2,8 +2,8 @@
 use Rattle.std.specs.Prelude.{◌≡◌, ℕ, ◌+◌, ◌<◌, ◌≤◌, List, [], ◌∷◌, ◌++◌, length, take, All, false}
 use Rattle.std.specs.Prelude.{Result, Ok, Err}
 use Rattle.http_wire.specs.declared.request.Request.{Request}
-use Rattle.xcap_io.specs.Causes.{StreamState, CountRises, Reads}
-use Rattle.xcap_io.specs.StreamTraffic.{Gave, IsEnded}
+use Rattle.xcap_io.specs.StreamStates.{StreamState, CountRises, DiffersByReads}
+use Rattle.xcap_io.specs.StreamTraffic.{GivesBytes, IsEnded}
 use Rattle.edit_journal.specs.declared.journal_restart.RestartFault.{RestartFault}
 use Rattle.edit_journal.specs.declared.journal_restart.RestartFault.TheVariants.{ReadFailed}
 use Rattle.edit_journal.specs.declared.journal_restart.RestartFault.TheVariants.{AppendFailed}
@@ -11,11 +11,12 @@ use Rattle.edit_journal.specs.declared.journal_restart.RestartFault.TheVariants.
 use Rattle.edit_journal.specs.declared.journal_restart.RestartFault.TheVariants.{TooLong, NoMemory}
 use Rattle.edit_journal.specs.declared.limits.TheConstants.{MAX_JOURNAL_BYTES}
 use Rattle.edit_journal.specs.Records.{record_of}
-use Rattle.edit_journal.specs.Journals.{JournalState, IsJournalProgress, AddsSome}
-use Rattle.edit_journal.specs.Logs.{LogState}
-use Rattle.edit_journal.specs.Replayers.{RedoesAll}
-use Rattle.edit_journal.specs.Texts.{text, IsRecordedRequest, BeginsWith, IsTorn, IsDamaged}
-use Rattle.edit_journal.specs.Texts.{HasNoRecord}
+use Rattle.edit_journal.specs.Journals.{JournalState, IsJournalProgress, AppendsPrefix}
+use Rattle.edit_journal.specs.JournalLogs.{LogState}
+use Rattle.edit_journal.specs.Replayers.{ReplaysRequests}
+use Rattle.edit_journal.specs.JournalTexts.{journal_text, IsRecordedRequest, BeginsWithRecord}
+use Rattle.edit_journal.specs.JournalTexts.{IsTorn, IsDamaged}
+use Rattle.edit_journal.specs.JournalTexts.{HasNoRecord}
 
 -- The counter of failed reads rose exactly at `ReadFailed`, and the journal's fault counter at
 -- `AppendFailed`.
@@ -42,55 +43,56 @@ pub record ReadRecords : Type 0 where
 -- S is the type of the states that the requests are replayed on.
 module _ {S : Type 0} (stands : S → List Request → Type 0) (refuses : S → Request → Type 0) where
   -- How a restart ended in this state, after these requests.
-  abbrev pub EndsAs : RestartState S → ReadRecords → Result LogState RestartFault → Type 0
+  abbrev pub RestartEndsAs : RestartState S → ReadRecords → Result LogState RestartFault → Type 0
   -- all bytes were given, the rest is torn, and the journal has the records
-  EndsAs state read (Ok log) =
+  RestartEndsAs state read (Ok log) =
       IsEnded state.source.inward × (length read.bytes ≤ MAX_JOURNAL_BYTES)
-      × HasNoRecord read.rest × IsTorn read.rest × (state.journal.held ≡ text read.requests)
-      × (log ≡ record { len = length (text read.requests); is_torn = false })
+      × HasNoRecord read.rest × IsTorn read.rest × (state.journal.held ≡ journal_text read.requests)
+      × (log ≡ record { len = length (journal_text read.requests); is_torn = false })
   -- the rest of the bytes that were given is torn
-  EndsAs state read (Err ReadFailed) =
-      (state.journal.held ≡ text read.requests) × HasNoRecord read.rest × IsTorn read.rest
+  RestartEndsAs state read (Err ReadFailed) =
+      (state.journal.held ≡ journal_text read.requests) × HasNoRecord read.rest × IsTorn read.rest
   -- after the other records comes a prefix of the last one
-  EndsAs state read (Err AppendFailed) =
+  RestartEndsAs state read (Err AppendFailed) =
       (before : List Request) × (last : Request)
       × (read.requests ≡ before ++ last ∷ [])
-      × AddsSome (text before) state.journal.held (record_of last)
+      × AppendsPrefix (journal_text before) state.journal.held (record_of last)
   -- from this offset on the bytes begin no record
-  EndsAs state read (Err (Damaged place)) =
-      (state.journal.held ≡ text read.requests) × IsDamaged read.rest
-      × (place ≡ length (text read.requests))
+  RestartEndsAs state read (Err (Damaged place)) =
+      (state.journal.held ≡ journal_text read.requests) × IsDamaged read.rest
+      × (place ≡ length (journal_text read.requests))
   -- the request of this number, counted from 1, is refused now
-  EndsAs state read (Err (Refused number)) =
-      (state.journal.held ≡ text read.requests)
+  RestartEndsAs state read (Err (Refused number)) =
+      (state.journal.held ≡ journal_text read.requests)
       × ((request : Request) × (more : List ℕ)
-      × BeginsWith read.rest request more × refuses state.replayer request)
+      × BeginsWithRecord read.rest request more × refuses state.replayer request)
       × (number ≡ length read.requests + 1)
   -- more bytes were given than are read, and the rest of those read is torn
-  EndsAs state read (Err TooLong) =
-      (state.journal.held ≡ text read.requests) × (MAX_JOURNAL_BYTES < length read.bytes)
+  RestartEndsAs state read (Err TooLong) =
+      (state.journal.held ≡ journal_text read.requests) × (MAX_JOURNAL_BYTES < length read.bytes)
       × HasNoRecord read.rest × IsTorn read.rest
-  EndsAs state read (Err NoMemory) =
+  RestartEndsAs state read (Err NoMemory) =
       (before more : List Request) × (read.requests ≡ before ++ more)
-      × (state.journal.held ≡ text before)
+      × (state.journal.held ≡ journal_text before)
 
   -- What a restart did. The source gave `bytes`, of which the first ones, up to the limit, count.
   -- The requests are those whose records are at the front of these, in order; each was replayed,
   -- and none was refused.
-  pub record Restarts (old new : RestartState S) (result : Result LogState RestartFault)
+  pub record RestartsReplayer (old new : RestartState S) (result : Result LogState RestartFault)
       : Type 0 where
     pub bytes : List ℕ
     pub requests : List Request
     pub rest : List ℕ
-    pub given : Gave old.source.inward new.source.inward bytes
+    pub given : GivesBytes old.source.inward new.source.inward bytes
     pub told : All IsRecordedRequest requests
-    pub split : take MAX_JOURNAL_BYTES bytes ≡ text requests ++ rest
-    pub redone : RedoesAll stands refuses old.replayer requests new.replayer
+    pub split : take MAX_JOURNAL_BYTES bytes ≡ journal_text requests ++ rest
+    pub redone : ReplaysRequests stands refuses old.replayer requests new.replayer
     -- so the state represents each list that it represented before, with these requests at the end
     pub stood : (past : List Request) → stands old.replayer past
         → stands new.replayer (past ++ requests)
-    pub ending : EndsAs new (record { bytes = bytes; requests = requests; rest = rest }) result
-    pub reads : Reads old.source new.source
+    pub ending : RestartEndsAs new (record { bytes = bytes; requests = requests; rest = rest })
+        result
+    pub reads : DiffersByReads old.source new.source
     pub goes : IsJournalProgress old.journal new.journal
     pub faults : CountsFaults old.source.read_faults new.source.read_faults old.journal.faults
         new.journal.faults result

@@ -2,10 +2,10 @@
 ghost use Rattle.std.specs.Prelude.{◌*◌, List};
 ghost use Rattle.http_wire.specs.declared.request.Request.{Request as TheRequest};
 ghost use Rattle.edit_journal.specs.Journals.{IsJournalProgress};
-ghost use Rattle.edit_journal.specs.Logs.{Fits};
-ghost use Rattle.edit_journal.specs.LoggedRequests.{Accepts};
+ghost use Rattle.edit_journal.specs.JournalLogs.{LogFitsJournal};
+ghost use Rattle.edit_journal.specs.LoggedRequests.{AcceptsRequest};
 ghost use Rattle.edit_journal.specs.LoggedMachines.{HoldsLog};
-ghost use Rattle.edit_journal.specs.Ports.{HasRoom, ServesLogged};
+ghost use Rattle.edit_journal.specs.LoggedPorts.{HasRoomForRecords, ServesLogged};
 
 use crate::journaled_machine::MachineWithJournal;
 use crate::{Journal, JournalLog, LoggedMachine};
@@ -24,10 +24,10 @@ pub fn serve_streams_logged<M: LoggedMachine, J: Journal, P: Port, W: Watchers<M
     count: u64,
     watchers: &mut W,
 ) -> ServeSummary
-    requires fits { Fits log.old (J.state journal.old) }
-    requires room_left { HasRoom log.old (count * 1000) }
+    requires fits { LogFitsJournal log.old (J.state journal.old) }
+    requires room_left { HasRoomForRecords log.old (count * 1000) }
     ensures serves_port { (requests : List TheRequest)
-        → HoldsLog (Accepts M.steps machine.old) log.old requests (J.state journal.old).held
+        → HoldsLog (AcceptsRequest M.steps machine.old) log.old requests (J.state journal.old).held
         → ServesLogged M.steps W.keeps (record { most = count; served = result }) requests
         (record {
           machine = record {
@@ -47,7 +47,7 @@ pub fn serve_streams_logged<M: LoggedMachine, J: Journal, P: Port, W: Watchers<M
           stream = P.state port.new;
           watchers = watchers.new;
         }) }
-    ensures still_fits { Fits log.new (J.state journal.new) }
+    ensures still_fits { LogFitsJournal log.new (J.state journal.new) }
     ensures goes_on { IsJournalProgress (J.state journal.old) (J.state journal.new) }
 {
     let mut logged = MachineWithJournal {

@@ -2,9 +2,10 @@
 ghost use Rattle.std.specs.Prelude.{◌≡◌, ◌+◌, ◌≤◌, ◌<◌, ◌^◌, slice_index_or, length, take, drop};
 ghost use Rattle.std.specs.Prelude.{IsTrue, ◌↔◌};
 ghost use Rattle.httparse.specs.Grammar.{is_token_byte, AllPass};
-ghost use Rattle.edit_journal.specs.inner.PartReaders.{Reads, Number, Short, Block, Name};
-ghost use Rattle.edit_journal.specs.inner.PartReaders.{padded_u32};
-ghost use Rattle.edit_journal.specs.inner.PartReaders.{padded_u16};
+ghost use Rattle.edit_journal.specs.inner.RecordParts.{ReadsPart, IsU32Between, IsU16Between};
+ghost use Rattle.edit_journal.specs.inner.RecordParts.{IsBlockBetween, IsTokenBlock};
+ghost use Rattle.edit_journal.specs.inner.RecordParts.{padded_u32};
+ghost use Rattle.edit_journal.specs.inner.RecordParts.{padded_u16};
 
 /// Why no part was read.
 #[derive(Clone, Copy, PartialEq, Eq)]
@@ -50,10 +51,10 @@ fn padded_u16(bytes: &[u8], lacking: u8) -> usize
 
 /// A number in four bytes, between two bounds.
 #[tactic(auto, using(crate::proofs::Numbers::numbers))]
-pub(crate) fn number(bytes: &[u8], least: usize, most: usize) -> Result<usize, FieldError>
+pub(crate) fn read_u32(bytes: &[u8], least: usize, most: usize) -> Result<usize, FieldError>
     requires nonempty { least ≤ most }
     requires fits { most < 2 ^ 32 }
-    ensures reads_rule { Reads (λ n. n) (Number least most) bytes.now result }
+    ensures reads_rule { ReadsPart (λ n. n) (IsU32Between least most) bytes.now result }
 {
     if padded_u32(bytes, 255) < least || padded_u32(bytes, 0) > most {
         return Err(FieldError::Wrong);
@@ -66,10 +67,10 @@ pub(crate) fn number(bytes: &[u8], least: usize, most: usize) -> Result<usize, F
 
 /// A number in two bytes, between two bounds.
 #[tactic(auto, using(crate::proofs::Numbers::numbers))]
-pub(crate) fn short(bytes: &[u8], least: usize, most: usize) -> Result<usize, FieldError>
+pub(crate) fn read_u16(bytes: &[u8], least: usize, most: usize) -> Result<usize, FieldError>
     requires nonempty { least ≤ most }
     requires fits { most < 2 ^ 16 }
-    ensures reads_rule { Reads (λ n. n) (Short least most) bytes.now result }
+    ensures reads_rule { ReadsPart (λ n. n) (IsU16Between least most) bytes.now result }
 {
     if padded_u16(bytes, 255) < least || padded_u16(bytes, 0) > most {
         return Err(FieldError::Wrong);
@@ -81,7 +82,7 @@ pub(crate) fn short(bytes: &[u8], least: usize, most: usize) -> Result<usize, Fi
 }
 
 // The bytes without the first `count` ones.
-pub(crate) fn after(bytes: &[u8], count: usize) -> &[u8]
+pub(crate) fn bytes_after(bytes: &[u8], count: usize) -> &[u8]
     requires { count ≤ length bytes.now }
     ensures exact { result.now ≡ drop count bytes.now }
 {
@@ -89,7 +90,7 @@ pub(crate) fn after(bytes: &[u8], count: usize) -> &[u8]
 }
 
 // The first `count` bytes, or all where there are fewer.
-fn first(bytes: &[u8], count: usize) -> &[u8]
+fn first_bytes(bytes: &[u8], count: usize) -> &[u8]
     ensures exact { result.now ≡ take count bytes.now }
 {
     &bytes[..count.min(bytes.len())]
@@ -99,10 +100,11 @@ fn first(bytes: &[u8], count: usize) -> &[u8]
 pub(crate) fn read_block(bytes: &[u8], least: usize, most: usize) -> Result<&[u8], FieldError>
     requires nonempty { least ≤ most }
     requires fits { most < 2 ^ 32 }
-    ensures reads_rule { Reads (λ piece. piece.now) (Block least most) bytes.now result }
+    ensures reads_rule { ReadsPart (λ piece. piece.now) (IsBlockBetween least most) bytes.now
+        result }
 {
-    let len = number(bytes, least, most)?;
-    let piece = first(after(bytes, 4), len);
+    let len = read_u32(bytes, least, most)?;
+    let piece = first_bytes(bytes_after(bytes, 4), len);
     if piece.len() < len {
         return Err(FieldError::Open);
     }
@@ -123,14 +125,14 @@ fn are_token_bytes(bytes: &[u8]) -> bool
 }
 
 /// A length between two bounds, of which the lower one isn't 0, and a token of that many bytes.
-pub(crate) fn name(bytes: &[u8], least: usize, most: usize) -> Result<&[u8], FieldError>
+pub(crate) fn read_token(bytes: &[u8], least: usize, most: usize) -> Result<&[u8], FieldError>
     requires positive_least { 0 < least }
     requires nonempty { least ≤ most }
     requires fits { most < 2 ^ 32 }
-    ensures reads_rule { Reads (λ piece. piece.now) (Name least most) bytes.now result }
+    ensures reads_rule { ReadsPart (λ piece. piece.now) (IsTokenBlock least most) bytes.now result }
 {
-    let len = number(bytes, least, most)?;
-    let piece = first(after(bytes, 4), len);
+    let len = read_u32(bytes, least, most)?;
+    let piece = first_bytes(bytes_after(bytes, 4), len);
     if !are_token_bytes(piece) {
         return Err(FieldError::Wrong);
     }

@@ -7,8 +7,9 @@ ghost use Rattle.xml_names.specs.Limits.{u64_max};
 ghost use Rattle.edit_journal.specs.Journals.{IsJournalProgress};
 ghost use Rattle.edit_journal.specs.declared.limits.TheConstants.{MAX_RECORD_BYTES};
 ghost use Rattle.edit_journal.specs.Records.{IsRecordable, record_of};
-ghost use Rattle.edit_journal.specs.Logs.{Fits, HoldsRecords, AddsRecord, with_request};
-ghost use Rattle.edit_journal.specs.inner.AppendSteps.{Repaired, Added, NotAdded};
+ghost use Rattle.edit_journal.specs.JournalLogs.{LogFitsJournal, HoldsRecords, AddsRecord};
+ghost use Rattle.edit_journal.specs.JournalLogs.{with_request};
+ghost use Rattle.edit_journal.specs.inner.AppendSteps.{RepairsLog, AppendsToLog, FailsToAppend};
 
 use crate::records::record_of;
 use crate::{Journal, NoMemory};
@@ -26,7 +27,7 @@ pub struct JournalLog {
 }
 
 impl Model for JournalLog {
-    ghost use Rattle.edit_journal.specs.Logs.{LogState};
+    ghost use Rattle.edit_journal.specs.JournalLogs.{LogState};
 
     ghost Value = { LogState };
 
@@ -91,12 +92,12 @@ impl JournalLog {
     // Cuts off what may come after the complete records.
     #[tactic(auto, using(crate::proofs::JournalCalls::going))]
     fn repair<J: Journal>(&mut self, journal: &mut J) -> Result<(), Failed>
-        requires { Fits self.old (J.state journal.old) }
+        requires { LogFitsJournal self.old (J.state journal.old) }
         ensures repairs_tail { OnOk result
-            (Repaired self.old (J.state journal.old) self.new (J.state journal.new)) }
+            (RepairsLog self.old (J.state journal.old) self.new (J.state journal.new)) }
         ensures err_keeps_whole { OnErr result
-            (NotAdded self.old (J.state journal.old) [] self.new (J.state journal.new)) }
-        ensures still_fits { Fits self.new (J.state journal.new) }
+            (FailsToAppend self.old (J.state journal.old) [] self.new (J.state journal.new)) }
+        ensures still_fits { LogFitsJournal self.new (J.state journal.new) }
         ensures goes_on { IsJournalProgress (J.state journal.old) (J.state journal.new) }
     {
         if !self.is_torn {
@@ -111,12 +112,13 @@ impl JournalLog {
     fn add<J: Journal>(&mut self, journal: &mut J, bytes: &[u8]) -> Result<(), Failed>
         requires not_torn { self.old.is_torn ≡ false }
         requires room_left { self.old.len + length bytes.now < 2 ^ 64 }
-        requires fits { Fits self.old (J.state journal.old) }
+        requires fits { LogFitsJournal self.old (J.state journal.old) }
         ensures adds_bytes { OnOk result
-            (Added self.old (J.state journal.old) bytes.now self.new (J.state journal.new)) }
+            (AppendsToLog self.old (J.state journal.old) bytes.now self.new (J.state journal.new)) }
         ensures err_keeps_whole { OnErr result
-            (NotAdded self.old (J.state journal.old) bytes.now self.new (J.state journal.new)) }
-        ensures still_fits { Fits self.new (J.state journal.new) }
+            (FailsToAppend self.old (J.state journal.old) bytes.now self.new
+            (J.state journal.new)) }
+        ensures still_fits { LogFitsJournal self.new (J.state journal.new) }
         ensures goes_on { IsJournalProgress (J.state journal.old) (J.state journal.new) }
     {
         self.is_torn = true;
@@ -140,7 +142,7 @@ impl JournalLog {
         request: &Request,
     ) -> Result<(), AppendFault>
         requires recordable { IsRecordable request.now }
-        requires fits { Fits self.old (J.state journal.old) }
+        requires fits { LogFitsJournal self.old (J.state journal.old) }
         requires room_left { self.old.len ≤ u64_max - MAX_RECORD_BYTES }
         ensures adds_record { AddsRecord
             (record { log = self.old; journal = J.state journal.old }) (record_of request.now)
@@ -151,7 +153,7 @@ impl JournalLog {
             (J.state journal.new).held }
         ensures no_memory_unchanged { result ≡ Err AppendFault.NoMemory
             → journal.new ≡ journal.old }
-        ensures still_fits { Fits self.new (J.state journal.new) }
+        ensures still_fits { LogFitsJournal self.new (J.state journal.new) }
         ensures goes_on { IsJournalProgress (J.state journal.old) (J.state journal.new) }
     {
         let record = record_of(alloc, request)?;

@@ -1,11 +1,11 @@
 // Replays an old journal at a restart.
 ghost use Rattle.std.specs.Prelude.{◌≡◌, ◌+◌, ◌≤◌, ℕ, List, [], ◌++◌, length, false, OnOk};
-ghost use Rattle.edit_journal.specs.Logs.{Fits};
+ghost use Rattle.edit_journal.specs.JournalLogs.{LogFitsJournal};
 ghost use Rattle.edit_journal.specs.declared.limits.TheConstants.{MAX_JOURNAL_BYTES};
 ghost use Rattle.edit_journal.specs.Records.{record_of};
-ghost use Rattle.edit_journal.specs.Texts.{IsRecordedRequest, HasNoRecord, IsTorn};
-ghost use Rattle.edit_journal.specs.Restarts.{Restarts};
-ghost use Rattle.edit_journal.specs.inner.ReplaySteps.{RedoesHeld};
+ghost use Rattle.edit_journal.specs.JournalTexts.{IsRecordedRequest, HasNoRecord, IsTorn};
+ghost use Rattle.edit_journal.specs.Restarts.{RestartsReplayer};
+ghost use Rattle.edit_journal.specs.inner.ReplaySteps.{ReplaysBufferedRecords};
 
 use crate::read_buffer::{FillResult, ReadBuffer};
 use crate::{AppendFault, Journal, JournalLog, NoMemory, ReplayStep, Replayer};
@@ -52,9 +52,9 @@ impl From<Failed> for RestartFault {
 }
 
 impl From<AppendFault> for RestartFault {
-    ghost use Rattle.edit_journal.specs.inner.ReplaySteps.{fault_of};
+    ghost use Rattle.edit_journal.specs.inner.ReplaySteps.{restart_fault_of};
 
-    ghost from_gives = { λ fault made. made ≡ fault_of fault };
+    ghost from_gives = { λ fault made. made ≡ restart_fault_of fault };
 
     fn from(fault: AppendFault) -> RestartFault {
         match fault {
@@ -65,7 +65,7 @@ impl From<AppendFault> for RestartFault {
 }
 
 // Replays a request, and adds its record to the journal, after `count` earlier ones.
-fn redo_one<J: Journal, R: Replayer>(
+fn replay_request<J: Journal, R: Replayer>(
     alloc: Global,
     request: &Request,
     journal: &mut J,
@@ -75,11 +75,11 @@ fn redo_one<J: Journal, R: Replayer>(
 ) -> Result<(), RestartFault>
     requires is_reported { IsRecordedRequest request.now }
     requires not_torn { log.old.is_torn ≡ false }
-    requires fits { Fits log.old (J.state journal.old) }
+    requires fits { LogFitsJournal log.old (J.state journal.old) }
     requires length_bounded { log.old.len ≤ MAX_JOURNAL_BYTES }
     requires within_max { count.old ≤ MAX_JOURNAL_BYTES }
     ensures redoes_request { (more : List ℕ)
-        → RedoesHeld R.stands R.refuses
+        → ReplaysBufferedRecords R.stands R.refuses
         (record {
           replayer = replayer.old;
           journal = J.state journal.old;
@@ -107,7 +107,7 @@ fn redo_one<J: Journal, R: Replayer>(
 
 // Replays the requests whose records are complete in the buffer, in order, and adds their records
 // to the journal.
-fn redo_held<J: Journal, R: Replayer>(
+fn replay_buffered<J: Journal, R: Replayer>(
     alloc: Global,
     read_buffer: &mut ReadBuffer,
     journal: &mut J,
@@ -116,10 +116,10 @@ fn redo_held<J: Journal, R: Replayer>(
     count: &mut u64,
 ) -> Result<(), RestartFault>
     requires not_torn { log.old.is_torn ≡ false }
-    requires fits { Fits log.old (J.state journal.old) }
+    requires fits { LogFitsJournal log.old (J.state journal.old) }
     requires length_bounded { log.old.len + length read_buffer.old.held ≤ MAX_JOURNAL_BYTES }
     requires within_max { count.old ≤ log.old.len }
-    ensures redoes_whole { RedoesHeld R.stands R.refuses
+    ensures redoes_whole { ReplaysBufferedRecords R.stands R.refuses
         (record {
           replayer = replayer.old;
           journal = J.state journal.old;
@@ -139,7 +139,7 @@ fn redo_held<J: Journal, R: Replayer>(
     ensures same_subject { R.about replayer.new ≡ R.about replayer.old }
 {
     'records: while let Some(request) = read_buffer.next_record(alloc, log.len())? {
-        redo_one(alloc, &request, journal, replayer, log, count)?;
+        replay_request(alloc, &request, journal, replayer, log, count)?;
     }
     Ok(())
 }
@@ -157,7 +157,7 @@ pub fn restart<S: Source, J: Journal, R: Replayer>(
     replayer: &mut R,
 ) -> Result<JournalLog, RestartFault>
     requires { (J.state journal.old).held ≡ [] }
-    ensures as_specified { Restarts R.stands R.refuses
+    ensures as_specified { RestartsReplayer R.stands R.refuses
         (record {
           source = S.state source.old;
           journal = J.state journal.old;
@@ -176,7 +176,7 @@ pub fn restart<S: Source, J: Journal, R: Replayer>(
     let mut count = 0;
     'reading: loop {
         match read_buffer.fill(source)? {
-            FillResult::Some => redo_held(
+            FillResult::Some => replay_buffered(
                 alloc,
                 &mut read_buffer,
                 journal,

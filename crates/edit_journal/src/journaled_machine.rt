@@ -13,11 +13,13 @@ pub(crate) struct MachineWithJournal<'a, M: LoggedMachine, J: Journal> {
 }
 
 impl<'a, M: LoggedMachine, J: Journal> Machine for MachineWithJournal<'a, M, J> {
-    ghost use Rattle.edit_journal.specs.inner.JournaledMachines.{Takes, WrappedStep, fewer};
+    ghost use Rattle.edit_journal.specs.inner.JournaledMachines.{CanAnswerRequests};
+    ghost use Rattle.edit_journal.specs.inner.JournaledMachines.{JournaledMachineStep};
+    ghost use Rattle.edit_journal.specs.inner.JournaledMachines.{can_answer_fewer};
 
     type Edit = M::Edit;
 
-    ghost steps = { λ old request reply new edit. WrappedStep M.steps
+    ghost steps = { λ old request reply new edit. JournaledMachineStep M.steps
         (record {
           machine = old.machine.now;
           log = old.log.now;
@@ -37,7 +39,7 @@ impl<'a, M: LoggedMachine, J: Journal> Machine for MachineWithJournal<'a, M, J> 
         })
         edit };
 
-    ghost takes = { λ logged n. Takes {M = M}
+    ghost takes = { λ logged n. CanAnswerRequests {M = M}
         (record {
           machine = logged.machine.now;
           log = logged.log.now;
@@ -52,7 +54,7 @@ impl<'a, M: LoggedMachine, J: Journal> Machine for MachineWithJournal<'a, M, J> 
         self.machine.answer_logged(self.log, self.journal, request)
     }
 
-    ghost takes_fewer = { λ logged n takes. fewer {M = M}
+    ghost takes_fewer = { λ logged n takes. can_answer_fewer {M = M}
         (record {
           machine = logged.machine.now;
           log = logged.log.now;

@@ -1,15 +1,16 @@
 // A journal in memory, for tests and for programs over known bytes.
 ghost use Rattle.std.specs.Prelude.{◌≡◌, ◌<◌, ◌≤◌, ◌+◌, ◌^◌, ◌↔◌, ◌++◌, length, nat_le, IfOk};
 ghost use Rattle.std.specs.Prelude.{IsTrue};
-ghost use Rattle.xcap_io.specs.Causes.{CountRises};
-ghost use Rattle.xcap_io.specs.Memory.{one_more};
-ghost use Rattle.edit_journal.specs.Journals.{Adds, Cuts};
-ghost use Rattle.edit_journal.specs.Memory.{FailsNow, MemoryAppend, MemoryCut, memory_state};
+ghost use Rattle.xcap_io.specs.StreamStates.{CountRises};
+ghost use Rattle.xcap_io.specs.MemoryStreams.{count_plus_one};
+ghost use Rattle.edit_journal.specs.Journals.{AppendsPiece, TruncatesJournal};
+ghost use Rattle.edit_journal.specs.MemoryJournals.{IsFailingCall, AppendsInMemory};
+ghost use Rattle.edit_journal.specs.MemoryJournals.{TruncatesInMemory, memory_journal_state};
 
 use crate::Journal;
 use std::alloc::Global;
 use std::marker::Model;
-use xcap_io::{Failed, NoMemory, fault};
+use xcap_io::{Failed, NoMemory, count_fault};
 
 /// A journal in memory. It takes bytes until its capacity is used up, and fails at the calls that
 /// it was set to fail.
@@ -24,7 +25,7 @@ pub struct MemJournal {
 
 impl Model for MemJournal {
     ghost use Rattle.std.specs.Prelude.{◌≤◌, length, take};
-    ghost use Rattle.edit_journal.specs.Memory.{MemoryJournal};
+    ghost use Rattle.edit_journal.specs.MemoryJournals.{MemoryJournal};
 
     ghost Value = { MemoryJournal };
 
@@ -77,8 +78,8 @@ impl MemJournal {
 
     // Counts a call, and returns whether it is to fail.
     fn is_failing_call(&mut self) -> bool
-        ensures fails_iff { IsTrue result ↔ FailsNow self.old }
-        ensures counts_call { self.new ≡ record self.old { calls = one_more self.old.calls } }
+        ensures fails_iff { IsTrue result ↔ IsFailingCall self.old }
+        ensures counts_call { self.new ≡ record self.old { calls = count_plus_one self.old.calls } }
     {
         self.calls = self.calls.saturating_add(1);
         self.fails.contains(&self.calls)
@@ -86,15 +87,16 @@ impl MemJournal {
 
     // Counts a fault.
     fn fail(&mut self) -> Failed
-        ensures counts_one_more { self.new ≡ record self.old { faults = one_more self.old.faults } }
+        ensures counts_one_more { self.new
+            ≡ record self.old { faults = count_plus_one self.old.faults } }
         ensures count_never_falls { self.old.faults ≤ self.new.faults }
         ensures count_rises { CountRises self.old.faults self.new.faults }
     {
-        fault(&mut self.faults)
+        count_fault(&mut self.faults)
     }
 
     // Appends a piece that fits.
-    fn fill_to(&mut self, piece: &[u8])
+    fn append_piece(&mut self, piece: &[u8])
         requires { length self.old.held + length piece.now ≤ self.old.room }
         ensures exact { self.new ≡ record self.old { held = self.old.held ++ piece.now } }
     {
@@ -112,31 +114,32 @@ impl MemJournal {
 }
 
 impl Journal for MemJournal {
-    ghost state = { memory_state };
+    ghost state = { memory_journal_state };
 
     fn append(&mut self, bytes: &[u8]) -> Result<(), Failed>
         requires { length self.old.held + length bytes.now < 2 ^ 64 }
-        ensures appends_bytes { Adds (memory_state self.old)
-            (memory_state self.new) result bytes.now }
-        ensures as_memory_form { MemoryAppend self.old self.new result bytes.now }
+        ensures appends_bytes { AppendsPiece (memory_journal_state self.old)
+            (memory_journal_state self.new) result bytes.now }
+        ensures as_memory_form { AppendsInMemory self.old self.new result bytes.now }
     {
         let fails = self.is_failing_call();
         if !self.has_room(bytes) {
             return Err(self.fail());
         }
         if fails {
-            self.fill_to(&bytes[..bytes.len() / 2]);
+            self.append_piece(&bytes[..bytes.len() / 2]);
             return Err(self.fail());
         }
-        self.fill_to(bytes);
+        self.append_piece(bytes);
         Ok(())
     }
 
     fn cut(&mut self, len: u64) -> Result<(), Failed>
         requires has_faults { 0 < self.old.faults }
         requires within { len ≤ length self.old.held }
-        ensures cuts_to_len { Cuts (memory_state self.old) (memory_state self.new) result len }
-        ensures as_memory_form { MemoryCut self.old self.new result len }
+        ensures cuts_to_len { TruncatesJournal (memory_journal_state self.old)
+            (memory_journal_state self.new) result len }
+        ensures as_memory_form { TruncatesInMemory self.old self.new result len }
     {
         if self.is_failing_call() {
             return Err(self.fail());

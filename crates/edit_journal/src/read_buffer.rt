@@ -1,11 +1,11 @@
 // The read buffer for an old journal.
 ghost use Rattle.std.specs.Prelude.{◌≡◌, ◌-◌, ◌<◌, ◌≤◌, [], length, drop, slice_range, IfOk};
-ghost use Rattle.xcap_io.specs.Causes.{OnlyReads};
-ghost use Rattle.edit_journal.specs.inner.ReadBuffer.{Fills, Ends, TakesRecord};
+ghost use Rattle.xcap_io.specs.StreamStates.{OnlyReads};
+ghost use Rattle.edit_journal.specs.inner.ReadBuffer.{FillsReadBuffer, ReportsEnd, TakesRecord};
 
 use crate::journal_restart::RestartFault;
 use crate::limits::{MAX_JOURNAL_BYTES, MAX_RECORD_BYTES};
-use crate::record_scan::{RecordScan, front_of};
+use crate::record_scan::{RecordScan, scan_record};
 use http_wire::Request;
 use std::alloc::Global;
 use std::marker::Model;
@@ -34,11 +34,11 @@ pub(crate) struct ReadBuffer {
 
 impl Model for ReadBuffer {
     ghost use Rattle.std.specs.Prelude.{◌≡◌, ◌≤◌, length, slice_range};
-    ghost use Rattle.edit_journal.specs.inner.ReadBuffer.{InflowState};
+    ghost use Rattle.edit_journal.specs.inner.ReadBuffer.{ReadBufferState};
     ghost use Rattle.edit_journal.specs.declared.limits.TheConstants.{MAX_JOURNAL_BYTES};
     ghost use Rattle.edit_journal.specs.declared.limits.TheConstants.{MAX_RECORD_BYTES};
 
-    ghost Value = { InflowState };
+    ghost Value = { ReadBufferState };
 
     ghost view = { λ i. record {
       held = slice_range i.buffer.items i.start i.end;
@@ -64,7 +64,8 @@ fn move_to_front(buffer: &mut [u8], start: usize, end: usize)
 
 // Whether a source has ended, by reading one more byte.
 fn has_ended<S: Source>(source: &mut S) -> Result<bool, Failed>
-    ensures byte_or_end { Ends (S.state source.old).inward (S.state source.new).inward result }
+    ensures byte_or_end { ReportsEnd (S.state source.old).inward (S.state source.new).inward
+        result }
     ensures only_reads { OnlyReads (S.state source.old) (S.state source.new) result }
 {
     let mut byte = [0];
@@ -103,7 +104,7 @@ impl ReadBuffer {
     fn read_more<S: Source>(&mut self, source: &mut S) -> Result<FillResult, Failed>
         requires room_left { length self.old.held < MAX_RECORD_BYTES }
         requires below_limit { self.old.taken < MAX_JOURNAL_BYTES }
-        ensures reads_more { Fills self.old self.new (S.state source.old).inward
+        ensures reads_more { FillsReadBuffer self.old self.new (S.state source.old).inward
             (S.state source.new).inward result }
         ensures at_most_limit { self.new.taken ≤ MAX_JOURNAL_BYTES }
         ensures only_reads { OnlyReads (S.state source.old) (S.state source.new) result }
@@ -127,7 +128,7 @@ impl ReadBuffer {
     /// Reads once, if the buffer has space for more.
     pub(crate) fn fill<S: Source>(&mut self, source: &mut S) -> Result<FillResult, Failed>
         requires { length self.old.held < MAX_RECORD_BYTES }
-        ensures reads_more { Fills self.old self.new (S.state source.old).inward
+        ensures reads_more { FillsReadBuffer self.old self.new (S.state source.old).inward
             (S.state source.new).inward result }
         ensures at_most_limit { self.new.taken ≤ MAX_JOURNAL_BYTES }
         ensures only_reads { OnlyReads (S.state source.old) (S.state source.new) result }
@@ -151,7 +152,7 @@ impl ReadBuffer {
     ) -> Result<Option<Request>, RestartFault>
         ensures takes_record { TakesRecord self.old self.new place result }
     {
-        match front_of(alloc, self.bytes())? {
+        match scan_record(alloc, self.bytes())? {
             RecordScan::Whole(request, len) => {
                 self.consume(len);
                 Ok(Some(request))

@@ -2,10 +2,11 @@
 ghost use Rattle.std.specs.Prelude.{◌≡◌, ◌≤◌, ◌<◌, ◌+◌, ◌-◌, ◌*◌, drop, take, length, IfOk, OnOk};
 ghost use Rattle.std.specs.Prelude.{if◌then◌else◌, ◌==◌};
 ghost use Rattle.http_wire.specs.declared.limits.TheConstants.{MAX_FIELD_LINES};
-ghost use Rattle.edit_journal.specs.inner.PartReaders.{Reads, Value, FieldPart, FieldsAndBody};
-ghost use Rattle.edit_journal.specs.inner.PartReaders.{HasRoom};
+ghost use Rattle.edit_journal.specs.inner.RecordParts.{ReadsPart, IsFieldValue, IsFieldPart};
+ghost use Rattle.edit_journal.specs.inner.RecordParts.{IsFieldsAndBody};
+ghost use Rattle.edit_journal.specs.inner.RecordParts.{HasRoomForFields};
 
-use crate::field_parsers::{FieldError, after, name, read_block};
+use crate::field_parsers::{FieldError, bytes_after, read_block, read_token};
 use crate::limits::MAX_CONTENT_BYTES;
 use http_wire::{Field, MAX_BODY_BYTES, token_text};
 use std::alloc::Global;
@@ -23,7 +24,7 @@ impl From<NoMemory> for FieldError {
 }
 
 // The least length of a value: without a field after it, the rest may not be longer than a body.
-fn least_value(others: usize, left: usize) -> usize
+fn min_value_len(others: usize, left: usize) -> usize
     ensures exact { result ≡ (if others == 0 then left - (MAX_BODY_BYTES + 8) else 0) }
 {
     if others == 0 {
@@ -34,16 +35,17 @@ fn least_value(others: usize, left: usize) -> usize
 }
 
 // The value of a field, where `left` bytes have it, `others` more fields and a body.
-fn value(bytes: &[u8], others: usize, left: usize) -> Result<&[u8], FieldError>
+fn read_value(bytes: &[u8], others: usize, left: usize) -> Result<&[u8], FieldError>
     requires others_bounded { others < MAX_FIELD_LINES }
     requires room_left { 9 * others + 8 ≤ left }
     requires left_bounded { left ≤ MAX_CONTENT_BYTES }
-    ensures reads_rule { Reads (λ piece. piece.now) (Value others left) bytes.now result }
+    ensures reads_rule { ReadsPart (λ piece. piece.now) (IsFieldValue others left) bytes.now
+        result }
 {
-    read_block(bytes, least_value(others, left), left - 8 - 9 * others)
+    read_block(bytes, min_value_len(others, left), left - 8 - 9 * others)
 }
 
-fn field_of(alloc: Global, name: &[u8], value: &[u8]) -> Result<Field, NoMemory>
+fn new_field(alloc: Global, name: &[u8], value: &[u8]) -> Result<Field, NoMemory>
     ensures ok { IfOk result (λ field. field ≡ record { name = name.now; value = value.now }) }
 {
     Ok(Field {
@@ -53,21 +55,21 @@ fn field_of(alloc: Global, name: &[u8], value: &[u8]) -> Result<Field, NoMemory>
 }
 
 // A field, where `left` bytes have it, `others` more fields and a body.
-fn field(alloc: Global, bytes: &[u8], others: usize, left: usize) -> Result<Field, FieldError>
+fn read_field(alloc: Global, bytes: &[u8], others: usize, left: usize) -> Result<Field, FieldError>
     requires others_bounded { others < MAX_FIELD_LINES }
     requires room_left { 9 * others + 13 ≤ left }
     requires left_bounded { left ≤ MAX_CONTENT_BYTES }
-    ensures reads_rule { Reads (λ field. field) (FieldPart others left) bytes.now result }
+    ensures reads_rule { ReadsPart (λ field. field) (IsFieldPart others left) bytes.now result }
 {
-    let token = name(bytes, 1, left - 12 - 9 * others)?;
-    let rest = after(bytes, 4 + token.len());
-    let piece = value(rest, others, left - 4 - token.len())?;
-    Ok(field_of(alloc, token, piece)?)
+    let token = read_token(bytes, 1, left - 12 - 9 * others)?;
+    let rest = bytes_after(bytes, 4 + token.len());
+    let piece = read_value(rest, others, left - 4 - token.len())?;
+    Ok(new_field(alloc, token, piece)?)
 }
 
 /// Reads this many fields and the body, which fill `left` bytes. The fields are appended to the
 /// list.
-pub(crate) fn fields_and_body(
+pub(crate) fn read_fields_and_body(
     alloc: Global,
     bytes: &[u8],
     count: usize,
@@ -75,17 +77,23 @@ pub(crate) fn fields_and_body(
     fields: &mut List<Field>,
 ) -> Result<Bytes, FieldError>
     requires count_bounded { count ≤ MAX_FIELD_LINES }
-    requires room_left { HasRoom count left }
+    requires room_left { HasRoomForFields count left }
     requires left_bounded { left ≤ MAX_CONTENT_BYTES }
-    ensures reads_rule { Reads (λ body. (drop (length fields.old) fields.new, body))
-        (FieldsAndBody count left) bytes.now result }
+    ensures reads_rule { ReadsPart (λ body. (drop (length fields.old) fields.new, body))
+        (IsFieldsAndBody count left) bytes.now result }
     ensures keeps_prefix { OnOk result (take (length fields.old) fields.new ≡ fields.old) }
 {
     if count == 0 {
         return Ok(Bytes::from(alloc, read_block(bytes, left - 4, left - 4)?)?);
     }
-    let field = field(alloc, bytes, count - 1, left)?;
+    let field = read_field(alloc, bytes, count - 1, left)?;
     let used = 8 + field.name.count() + field.value.len();
     fields.push(field)?;
-    fields_and_body(alloc, after(bytes, used), count - 1, left - used, fields)
+    read_fields_and_body(
+        alloc,
+        bytes_after(bytes, used),
+        count - 1,
+        left - used,
+        fields,
+    )
 }

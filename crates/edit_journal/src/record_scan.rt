@@ -1,6 +1,6 @@
 // What is at the front of a journal's bytes.
 ghost use Rattle.std.specs.Prelude.{IfOk};
-ghost use Rattle.edit_journal.specs.inner.Fronts.{IsFront};
+ghost use Rattle.edit_journal.specs.inner.RecordScans.{IsRecordScan};
 
 use crate::NoMemory;
 use crate::field_parsers::{FieldError, record_len};
@@ -21,8 +21,8 @@ pub(crate) enum RecordScan {
 
 /// Scans for a record at the front of the bytes; exactly one of the three results applies.
 #[tactic(auto, using(crate::proofs::Fronts::fronts))]
-pub(crate) fn front_of(alloc: Global, bytes: &[u8]) -> Result<RecordScan, NoMemory>
-    ensures record_front { IfOk result (IsFront bytes.now) }
+pub(crate) fn scan_record(alloc: Global, bytes: &[u8]) -> Result<RecordScan, NoMemory>
+    ensures record_front { IfOk result (IsRecordScan bytes.now) }
 {
     match read_record(alloc, bytes) {
         Ok(request) => Ok(RecordScan::Whole(request, record_len(bytes))),

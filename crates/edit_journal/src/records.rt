@@ -1,9 +1,10 @@
 // Writes the records of requests.
 ghost use Rattle.std.specs.Prelude.{◌≡◌, ◌<◌, ◌^◌, ◌++◌, length, All, IfOk, OnOk, flat_map};
 ghost use Rattle.std.specs.Int.{to_be_bytes};
-ghost use Rattle.edit_journal.specs.Records.{method_number, block, field_text, record_content};
+ghost use Rattle.edit_journal.specs.Records.{method_number, length_prefixed, field_text};
+ghost use Rattle.edit_journal.specs.Records.{record_content};
 ghost use Rattle.edit_journal.specs.Records.{record_of, IsRecordable};
-ghost use Rattle.edit_journal.specs.inner.WritableParts.{IsWritable};
+ghost use Rattle.edit_journal.specs.inner.WritableFields.{IsWritableField};
 
 use http_wire::{Field, Request};
 use std::alloc::Global;
@@ -25,34 +26,34 @@ fn method_number(method: &Text) -> u8
 }
 
 // Appends a length and that many bytes.
-#[tactic(auto, unfolding(crate::specs::Records::block))]
+#[tactic(auto, unfolding(crate::specs::Records::length_prefixed))]
 fn append_block(made: &mut Bytes, bytes: &[u8]) -> Result<(), NoMemory>
     requires { length bytes.now < 2 ^ 32 }
-    ensures appended { OnOk result (made.new ≡ made.old ++ block bytes.now) }
+    ensures appended { OnOk result (made.new ≡ made.old ++ length_prefixed bytes.now) }
 {
     made.extend(&(bytes.len() as u32).to_be_bytes())?;
     made.extend(bytes)
 }
 
-fn put_field(made: &mut Bytes, field: &Field) -> Result<(), NoMemory>
-    requires { IsWritable field.now }
+fn append_field(made: &mut Bytes, field: &Field) -> Result<(), NoMemory>
+    requires { IsWritableField field.now }
     ensures appended { OnOk result (made.new ≡ made.old ++ field_text field.now) }
 {
     append_block(made, field.name.as_str().as_bytes())?;
     append_block(made, field.value.as_slice())
 }
 
-fn put_fields(made: &mut Bytes, fields: &[Field]) -> Result<(), NoMemory>
-    requires { All IsWritable fields.now }
+fn append_fields(made: &mut Bytes, fields: &[Field]) -> Result<(), NoMemory>
+    requires { All IsWritableField fields.now }
     ensures appended { OnOk result (made.new ≡ made.old ++ flat_map field_text fields.now) }
 {
     'fields: for field in fields {
-        put_field(made, field)?;
+        append_field(made, field)?;
     }
     Ok(())
 }
 
-fn content_of(alloc: Global, request: &Request) -> Result<Bytes, NoMemory>
+fn encode_content(alloc: Global, request: &Request) -> Result<Bytes, NoMemory>
     requires { IsRecordable request.now }
     ensures ok { IfOk result (λ bytes. bytes ≡ record_content request.now) }
 {
@@ -61,7 +62,7 @@ fn content_of(alloc: Global, request: &Request) -> Result<Bytes, NoMemory>
     append_block(&mut bytes, request.target.as_slice())?;
     let fields = request.fields.as_slice();
     bytes.extend(&(fields.len() as u16).to_be_bytes())?;
-    put_fields(&mut bytes, fields)?;
+    append_fields(&mut bytes, fields)?;
     append_block(&mut bytes, request.body.as_slice())?;
     Ok(bytes)
 }
@@ -71,7 +72,7 @@ pub(crate) fn record_of(alloc: Global, request: &Request) -> Result<Bytes, NoMem
     requires { IsRecordable request.now }
     ensures ok { IfOk result (λ bytes. bytes ≡ record_of request.now) }
 {
-    let content = content_of(alloc, request)?;
+    let content = encode_content(alloc, request)?;
     let mut made = Bytes::new(alloc);
     append_block(&mut made, content.as_slice())?;
     Ok(made)

@@ -1,7 +1,7 @@
 // What requests are replayed on.
 ghost use Rattle.std.specs.Prelude.{◌≡◌, ℕ, List};
 ghost use Rattle.http_wire.specs.declared.request.Request.{Request as TheRequest};
-ghost use Rattle.edit_journal.specs.Replayers.{Redoes};
+ghost use Rattle.edit_journal.specs.Replayers.{ReplaysRequest};
 
 use http_wire::Request;
 
@@ -30,6 +30,7 @@ pub trait Replayer {
     /// Replays a request. `Refused` comes exactly where it refuses the request, unless out of
     /// memory.
     fn redo(&mut self, request: &Request) -> ReplayStep
-        ensures redoes_request { Redoes stands refuses self.old request.now result self.new }
+        ensures redoes_request { ReplaysRequest stands refuses self.old request.now result
+            self.new }
         ensures same_subject { about self.new ≡ about self.old };
 }

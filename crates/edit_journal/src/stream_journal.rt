@@ -1,9 +1,9 @@
 // A journal over a sink.
 ghost use Rattle.std.specs.Prelude.{◌≡◌, [], nat_lt};
-ghost use Rattle.edit_journal.specs.Streams.{stream_state};
+ghost use Rattle.edit_journal.specs.StreamJournals.{stream_journal_state};
 
 use crate::Journal;
-use xcap_io::{Failed, Line, Sink, fault};
+use xcap_io::{Failed, Line, Sink, count_fault};
 
 /// A journal that writes its bytes to a sink, from which nothing can be cut. It has its own fault
 /// counter, and its first fault is one of the sink.
@@ -18,7 +18,7 @@ impl<'a, O: Sink> StreamJournal<'a, O> {
     /// An empty journal. Does not allocate.
     pub fn new(output: &'a mut O) -> StreamJournal<'a, O>
         ensures sink_state { ⟦<StreamJournal<'a, O> as Journal>⟧.state result
-            ≡ stream_state (O.state output.old) output.entry.ghost_name 0 0 }
+            ≡ stream_journal_state (O.state output.old) output.entry.ghost_name 0 0 }
         ensures holds_nothing { (⟦<StreamJournal<'a, O> as Journal>⟧.state result).held ≡ [] }
         ensures starts_after_taken { (⟦<StreamJournal<'a, O> as Journal>⟧.state result).before
             ≡ (O.state output.old).taken }
@@ -40,7 +40,8 @@ impl<'a, O: Sink> StreamJournal<'a, O> {
 }
 
 impl<O: Sink> Journal for StreamJournal<'_, O> {
-    ghost state = { λ j. stream_state (O.state j.output.now) j.output.ghost_name j.len j.faults };
+    ghost state = { λ j. stream_journal_state (O.state j.output.now)
+        j.output.ghost_name j.len j.faults };
 
     fn append(&mut self, bytes: &[u8]) -> Result<(), Failed> {
         let mut done = 0;
@@ -50,13 +51,13 @@ impl<O: Sink> Journal for StreamJournal<'_, O> {
                     done += count;
                     self.len = self.len.saturating_add(count as u64);
                 }
-                Err(Failed) => return Err(fault(&mut self.faults)),
+                Err(Failed) => return Err(count_fault(&mut self.faults)),
             }
         }
         Ok(())
     }
 
     fn cut(&mut self, _len: u64) -> Result<(), Failed> {
-        Err(fault(&mut self.faults))
+        Err(count_fault(&mut self.faults))
     }
 }

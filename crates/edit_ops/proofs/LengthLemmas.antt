@@ -3,7 +3,7 @@ use Rattle.std.proofs.Common.{◌≡◌, ℕ, zero, suc, ◌+◌, ◌<◌, ◌�
 use Rattle.std.specs.List.{slice_get}
 use Rattle.xml_tree.specs.Tree.{Content, last, more, comment_node, Tree, tree_of, at, child_elements, child_elements_of}
 use Rattle.xml_names.specs.Attributes.{with_attr, without_attr}
-use Rattle.xml_tree.specs.Edits.{cut, cut_child, own_number, put_kid}
+use Rattle.xml_tree.specs.Edits.{cut, cut_child, last_number, put_kid}
 use Rattle.xml_tree.specs.Nodes.{nodes_of, text_node}
 use Rattle.xml_names.specs.Markup.{byte_len}
 use Rattle.xml_tree.specs.Print.{is_empty, print}
@@ -14,8 +14,8 @@ use Rattle.xml_tree.proofs.PrintEdits.{attrs-dropped, attrs-written, content-cut
 use Rattle.edit_ops.specs.declared.change.Change.{Change}
 use Rattle.edit_ops.specs.declared.change.Change.TheVariants.{CreateDocument, Insert, Replace, Remove, SetAttr, DropAttr, RemoveDocument}
 use Rattle.edit_ops.specs.Changes.{edited}
-use Rattle.edit_ops.specs.inner.Lengths.{inserted_part, end_tag_len, removed_len}
-use Rattle.edit_ops.specs.ElementChanges.{site}
+use Rattle.edit_ops.specs.inner.LengthChanges.{added_len, end_tag_len, removed_len}
+use Rattle.edit_ops.specs.ChangeSites.{change_site}
 use Rattle.edit_ops.specs.inner.LocalChanges.{FitsLocally, local_result}
 use Rattle.edit_ops.proofs.SiteLemmas.{edited_there}
 
@@ -84,7 +84,7 @@ there (suc i) (x ∷ xs) h = there i xs (omega arith)
 
 -- the print of the element that a change is made in, with what it loses and what it gains
 abbrev Balanced : Change → Tree → Type 0
-Balanced change e = (byte_len (print (local_result change e)) + removed_len change e ≡ byte_len (print e) + inserted_part change e) × (removed_len change e ≤ byte_len (print e))
+Balanced change e = (byte_len (print (local_result change e)) + removed_len change e ≡ byte_len (print e) + added_len change e) × (removed_len change e ≤ byte_len (print e))
 
 put_here : (gap : ℕ) (k e : Tree) → gap ≤ length (child_elements_of e) → (b : Bool) → is_empty e.content ≡ b
     → byte_len (print (put_kid gap k e)) ≡ byte_len (print e) + (byte_len (print k) + cond (is_empty e.content) (end_tag_len e.name) 0)
@@ -137,8 +137,8 @@ balanced (CreateDocument root) e fits = absurd fits
 balanced (Insert parent gap k) e fits = (omega (arith, put_here gap k e fits (is_empty e.content) refl), omega arith)
 balanced (Replace p other) e fits = (omega arith, omega arith)
 balanced (Remove p) e fits =
-    let child_element = there (own_number p) (child_elements_of e) fits.1 in
-    let here = cut_here (own_number p) child_element.0 e child_element.1 (is_empty (cut (own_number p) e.content)) refl in
+    let child_element = there (last_number p) (child_elements_of e) fits.1 in
+    let here = cut_here (last_number p) child_element.0 e child_element.1 (is_empty (cut (last_number p) e.content)) refl in
     let len = ap (λ o. byte_len (flat_map print (option_to_list o))) child_element.1 ∙ one print child_element.0 in
     (omega (arith, here, len), omega (arith, here, len))
 balanced (SetAttr p name value) e fits =
@@ -153,11 +153,11 @@ balanced RemoveDocument e fits = absurd fits
 
 -- ---- the whole tree
 
-pub len_after : (t e : Tree) (change : Change) → at (site change) t ≡ Some e → FitsLocally change e
-    → (byte_len (print (edited t change)) + removed_len change e ≡ byte_len (print t) + inserted_part change e) × (removed_len change e ≤ byte_len (print t))
+pub len_after : (t e : Tree) (change : Change) → at (change_site change) t ≡ Some e → FitsLocally change e
+    → (byte_len (print (edited t change)) + removed_len change e ≡ byte_len (print t) + added_len change e) × (removed_len change e ≤ byte_len (print t))
 len_after t e change is fits =
     let here = balanced change e fits in
-    let whole = print-change_at (site change) (local_result change) e t is in
-    let within = print-at (site change) e t is in
+    let whole = print-change_at (change_site change) (local_result change) e t is in
+    let within = print-at (change_site change) e t is in
     let same = ap (λ x. byte_len (print x)) (edited_there t change) in
     (omega (arith, here.0, whole, same), omega (arith, here.1, within))

@@ -1,7 +1,7 @@
 -- A tag whose attributes are written one after the other.
 use Rattle.std.proofs.Common.{◌≡◌, ℕ, true, cond, List, [], ◌∷◌, ◌++◌, sym, ap, ◌∙◌, append_assoc}
 use Rattle.xml_tree.specs.Tree.{Tree}
-use Rattle.xml_names.specs.Attributes.{with_new_value, with_attr, is_written_so as is_named}
+use Rattle.xml_names.specs.Attributes.{with_new_value, with_attr, has_qname as is_named}
 use Rattle.xml_names.specs.declared.names.Name.{Name}
 use Rattle.xml_names.specs.declared.names.Attr.{Attr}
 

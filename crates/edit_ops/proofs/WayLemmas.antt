@@ -4,7 +4,7 @@ use Rattle.std.proofs.lemmas.Bool.{eqb-true, eq-eqb, ne_eqb}
 use Rattle.std.proofs.lemmas.List.Elements.{recursion_from_All}
 use Rattle.std.specs.List.{AllByRecursion}
 use Rattle.std.specs.Prelude.{◌==◌}
-use Rattle.xml_tree.specs.Edits.{parent_path, own_number}
+use Rattle.xml_tree.specs.Edits.{parent_path, last_number}
 use Rattle.edit_ops.specs.MovedPaths.{path_below}
 use Rattle.xml_tree.proofs.PathLemmas.{front-snoc, final-snoc}
 
@@ -45,7 +45,7 @@ apart_if false x y s C f h k = absurd (cc)
 
 -- a path that leads through the parent of a place, and not through the place, continues with
 -- another number
-pub front-apart : (q p : List ℕ) (n : ℕ) (r : List ℕ) → 0 < length q → path_below q p ≡ None → path_below (parent_path q) p ≡ Some (n ∷ r) → own_number q ≡ n → ⊥
+pub front-apart : (q p : List ℕ) (n : ℕ) (r : List ℕ) → 0 < length q → path_below q p ≡ None → path_below (parent_path q) p ≡ Some (n ∷ r) → last_number q ≡ n → ⊥
 front-apart [] p n r some h k e = absurd (omega arith)
 front-apart (m ∷ []) [] n r some h k e = absurd (cc)
 front-apart (m ∷ []) (x ∷ p) n r some h k e =

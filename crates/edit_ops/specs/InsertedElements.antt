@@ -8,24 +8,24 @@ use Rattle.edit_ops.specs.declared.change.Change.TheVariants.{Remove, SetAttr, D
 use Rattle.edit_ops.specs.declared.change.Change.TheVariants.{RemoveDocument}
 
 -- the change inserts an element
-abbrev pub BringsElement : Change → Type 0
-BringsElement (CreateDocument root) = Unit {0}
-BringsElement (Insert parent gap element) = Unit {0}
-BringsElement (Replace p element) = Unit {0}
-BringsElement (Remove p) = ⊥
-BringsElement (SetAttr p name value) = ⊥
-BringsElement (DropAttr p name) = ⊥
-BringsElement RemoveDocument = ⊥
+abbrev pub InsertsElement : Change → Type 0
+InsertsElement (CreateDocument root) = Unit {0}
+InsertsElement (Insert parent gap element) = Unit {0}
+InsertsElement (Replace p element) = Unit {0}
+InsertsElement (Remove p) = ⊥
+InsertsElement (SetAttr p name value) = ⊥
+InsertsElement (DropAttr p name) = ⊥
+InsertsElement RemoveDocument = ⊥
 
 -- an element without a name, in place of the inserted element of a change that has none
-abbrev pub nameless : Tree
-nameless = tree_of (record { prefix = []; local = [] }) [] [] (last [])
+abbrev pub nameless_element : Tree
+nameless_element = tree_of (record { prefix = []; local = [] }) [] [] (last [])
 
-abbrev pub inserted_part : Change → Tree
-inserted_part (CreateDocument root) = root
-inserted_part (Insert parent gap element) = element
-inserted_part (Replace p element) = element
-inserted_part (Remove p) = nameless
-inserted_part (SetAttr p name value) = nameless
-inserted_part (DropAttr p name) = nameless
-inserted_part RemoveDocument = nameless
+abbrev pub inserted_element : Change → Tree
+inserted_element (CreateDocument root) = root
+inserted_element (Insert parent gap element) = element
+inserted_element (Replace p element) = element
+inserted_element (Remove p) = nameless_element
+inserted_element (SetAttr p name value) = nameless_element
+inserted_element (DropAttr p name) = nameless_element
+inserted_element RemoveDocument = nameless_element

@@ -1,10 +1,10 @@
+pub mod ChangeSites
 pub mod Changes
-pub mod ElementChanges
+pub mod DiffOperations
 pub mod InsertedElements
-pub mod Lengths
 pub mod MovedPaths
 pub mod Notes
-pub mod Operations
+pub mod PrintedLengths
 pub mod RecordParts
 pub mod StagedChanges
 pub mod inner

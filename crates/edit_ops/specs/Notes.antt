@@ -3,13 +3,13 @@
 use Rattle.std.specs.Prelude.{◌≡◌, ℕ, Bool, false, List, [], ◌∷◌, is_none}
 use Rattle.xml_tree.specs.Tree.{Tree}
 use Rattle.xml_tree.specs.Edits.{attr_at}
-use Rattle.xml_names.specs.Scopes.{bindings_in}
+use Rattle.xml_names.specs.Scopes.{in_scope_bindings}
 use Rattle.xml_tree.specs.TreeScopes.{scope_at, scope_around}
 use Rattle.xml_names.specs.declared.names.Decl.{Decl}
 use Rattle.edit_ops.specs.declared.change.Change.{Change}
 use Rattle.edit_ops.specs.declared.change.Change.TheVariants.{Insert, Replace, Remove, SetAttr}
 use Rattle.edit_ops.specs.declared.change.Change.TheVariants.{DropAttr}
-use Rattle.edit_ops.specs.Changes.{Fits, edited}
+use Rattle.edit_ops.specs.Changes.{FitsTree, edited}
 
 -- a change record: the tags before and after the change, all bindings in scope at its place, the
 -- change, and whether it writes a new attribute
@@ -42,7 +42,7 @@ note_of previous next t change =
     record {
       previous = previous;
       next = next;
-      bindings = bindings_in (scope_of_place t change);
+      bindings = in_scope_bindings (scope_of_place t change);
       change = change;
       fresh = is_fresh t change;
     }
@@ -52,7 +52,8 @@ note_of previous next t change =
 abbrev pub AreNotesOf : ℕ → Tree → List Note → Type 0
 AreNotesOf tag t [] = Unit {0}
 AreNotesOf tag t (n ∷ ns) =
-    Fits t n.change × (n ≡ note_of tag n.next t n.change) × AreNotesOf n.next (edited t n.change) ns
+    FitsTree t n.change × (n ≡ note_of tag n.next t n.change)
+    × AreNotesOf n.next (edited t n.change) ns
 
 -- the tree and the tag after them
 abbrev pub tree_after : Tree → List Note → Tree

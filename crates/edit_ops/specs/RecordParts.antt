@@ -14,7 +14,7 @@ abbrev pub all_notes : List Note → List Note → List Note
 all_notes older newer = older ++ newer
 
 -- the change creates or removes the whole document
-abbrev pub IsOfDocument : Change → Type 0
-IsOfDocument (CreateDocument root) = Unit {0}
-IsOfDocument RemoveDocument = Unit {0}
-IsOfDocument _ = ⊥
+abbrev pub IsDocumentChange : Change → Type 0
+IsDocumentChange (CreateDocument root) = Unit {0}
+IsDocumentChange RemoveDocument = Unit {0}
+IsDocumentChange _ = ⊥

@@ -3,11 +3,11 @@
 use Rattle.std.specs.Prelude.{◌≡◌, IsSomeAnd, Vec}
 use Rattle.std.specs.declared.alloc.Global.{Global}
 use Rattle.xml_tree.specs.Tree.{Tree, at}
-use Rattle.xml_tree.specs.Edits.{own_number}
-use Rattle.xml_tree.specs.Reservations.{HasAttrRoom, HasNodeRoom, joined_around}
+use Rattle.xml_tree.specs.Edits.{last_number}
+use Rattle.xml_tree.specs.Reservations.{HasAttrCapacity, HasNodeCapacity, joined_texts_around}
 use Rattle.xml_names.specs.declared.names.Attr.{Attr}
 use Rattle.xml_tree.specs.declared.tree.Node.{Node}
-use Rattle.edit_ops.specs.ElementChanges.{site}
+use Rattle.edit_ops.specs.ChangeSites.{change_site}
 use Rattle.edit_ops.specs.declared.change.Change.{Change}
 use Rattle.edit_ops.specs.declared.change.Change.TheVariants.{CreateDocument, Insert, Replace}
 use Rattle.edit_ops.specs.declared.change.Change.TheVariants.{Remove, SetAttr, DropAttr}
@@ -18,17 +18,17 @@ use Rattle.edit_ops.specs.declared.staged_change.Staged.TheVariants.{Nothing}
 
 -- what the change inserts into the element that it is made in: the parts that it names, and
 -- capacity for them beside what is there already
-abbrev pub IsStagedHere : Change → Tree → Staged → Type 0
-IsStagedHere (CreateDocument root) e made = ⊥
-IsStagedHere (Insert parent gap element) e made =
-    (room : Vec Node Global) × (made ≡ Child element room) × HasNodeRoom e room
-IsStagedHere (Replace p element) e made = made ≡ Other element
-IsStagedHere (Remove p) e made = made ≡ Joint (joined_around (own_number p) e.content)
-IsStagedHere (SetAttr p name value) e made =
-    (room : Vec Attr Global) × (made ≡ Attribute name value room) × HasAttrRoom name e room
-IsStagedHere (DropAttr p name) e made = made ≡ Nothing
-IsStagedHere RemoveDocument e made = ⊥
+abbrev pub IsStagedLocally : Change → Tree → Staged → Type 0
+IsStagedLocally (CreateDocument root) e made = ⊥
+IsStagedLocally (Insert parent gap element) e made =
+    (room : Vec Node Global) × (made ≡ Child element room) × HasNodeCapacity e room
+IsStagedLocally (Replace p element) e made = made ≡ Other element
+IsStagedLocally (Remove p) e made = made ≡ Joint (joined_texts_around (last_number p) e.content)
+IsStagedLocally (SetAttr p name value) e made =
+    (room : Vec Attr Global) × (made ≡ Attribute name value room) × HasAttrCapacity name e room
+IsStagedLocally (DropAttr p name) e made = made ≡ Nothing
+IsStagedLocally RemoveDocument e made = ⊥
 
 -- what the change inserts into the tree
 abbrev pub IsStaged : Tree → Change → Staged → Type 0
-IsStaged t change made = IsSomeAnd (at (site change) t) (λ e. IsStagedHere change e made)
+IsStaged t change made = IsSomeAnd (at (change_site change) t) (λ e. IsStagedLocally change e made)

@@ -1,5 +1,5 @@
 -- Definitions for private functions and proofs; no public clause needs them.
-pub mod Lengths
+pub mod LengthChanges
 pub mod LocalChanges
-pub mod RecordData
-pub mod RecordLengths
+pub mod OperationLengths
+pub mod WeighedRecords

@@ -1,7 +1,7 @@
 //! Changes made in place.
 ghost use Rattle.std.specs.Prelude.{◌≡◌, OnOk, OnErr};
-ghost use Rattle.edit_ops.specs.Changes.{Fits, WantsMemory, edited};
-ghost use Rattle.edit_ops.specs.MovedPaths.{KeepsTheOthers};
+ghost use Rattle.edit_ops.specs.Changes.{FitsTree, NeedsMemory, edited};
+ghost use Rattle.edit_ops.specs.MovedPaths.{KeepsOtherElements};
 
 use crate::change::Change;
 use crate::staged_change::{apply_staged, stage};
@@ -16,11 +16,11 @@ use xml_tree::Element;
 /// `NoMemory` when out of memory; the tree is then unchanged. It never comes where an attribute is
 /// dropped, and where an element is removed only if texts are directly on both sides of it.
 pub fn apply_change(alloc: Global, root: &mut Element, change: &Change) -> Result<(), AllocError>
-    requires { Fits root.old change.now }
+    requires { FitsTree root.old change.now }
     ensures makes_change { OnOk result (root.new ≡ edited root.old change.now) }
-    ensures others_unchanged { OnOk result (KeepsTheOthers root.old change.now root.new) }
+    ensures others_unchanged { OnOk result (KeepsOtherElements root.old change.now root.new) }
     ensures err_unchanged { OnErr result (root.new ≡ root.old) }
-    ensures err_wants_memory { OnErr result (WantsMemory root.old change.now) }
+    ensures err_wants_memory { OnErr result (NeedsMemory root.old change.now) }
 {
     let staged = stage(alloc, root, change)?;
     apply_staged(root, change, staged);

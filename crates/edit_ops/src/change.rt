@@ -1,6 +1,6 @@
 //! Changes of documents (RFC 4825, sections 8.2 and 8.4).
 ghost use Rattle.std.specs.Prelude.{◌≡◌, IfOk};
-ghost use Rattle.edit_ops.specs.ElementChanges.{site};
+ghost use Rattle.edit_ops.specs.ChangeSites.{change_site};
 
 use std::alloc::{AllocError, Global};
 use xml_names::{Name, Text};
@@ -102,7 +102,7 @@ impl Change {
 // The place of the element that a change is made in.
 #[tactic(auto, using(crate::proofs::WayLemmas::parents))]
 pub(crate) fn site_of(change: &Change) -> Path
-    ensures exact { result ≡ site change.now }
+    ensures exact { result ≡ change_site change.now }
 {
     match change {
         Change::CreateDocument { .. } => Path::root(),

@@ -1,12 +1,12 @@
 //! Change records.
 ghost use Rattle.std.specs.Prelude.{◌≡◌, IfErr, IfOk, min};
 ghost use Rattle.xml_tree.specs.Tree.{Tree};
-ghost use Rattle.edit_ops.specs.Changes.{Fits};
-ghost use Rattle.edit_ops.specs.Lengths.{element_len};
+ghost use Rattle.edit_ops.specs.Changes.{FitsTree};
+ghost use Rattle.edit_ops.specs.PrintedLengths.{element_len};
 ghost use Rattle.edit_ops.specs.Notes.{note_of};
-ghost use Rattle.edit_ops.specs.Operations.{weight};
-ghost use Rattle.edit_ops.specs.RecordParts.{IsOfDocument, made_note};
-ghost use Rattle.edit_ops.specs.inner.RecordData.{IsWeighed, note_in};
+ghost use Rattle.edit_ops.specs.DiffOperations.{weight};
+ghost use Rattle.edit_ops.specs.RecordParts.{IsDocumentChange, made_note};
+ghost use Rattle.edit_ops.specs.inner.WeighedRecords.{IsWeighed, note_in};
 
 use crate::record_bindings::{bindings_of_place, is_fresh};
 use crate::record_weight::weight;
@@ -40,7 +40,7 @@ impl Model for EditNote {
     ghost use Rattle.std.specs.Coded.{codes};
     ghost use Rattle.edit_ops.specs.contracts.change.Change as c;
     ghost use Rattle.edit_ops.specs.Notes.{Note};
-    ghost use Rattle.edit_ops.specs.inner.RecordData.{IsWeighed, note_in};
+    ghost use Rattle.edit_ops.specs.inner.WeighedRecords.{IsWeighed, note_in};
 
     ghost Value = { Note };
 
@@ -66,7 +66,7 @@ impl EditNote {
         change: Change,
         put: usize,
     ) -> Result<EditNote, NoMemory>
-        requires fits { Fits root.now change }
+        requires fits { FitsTree root.now change }
         requires length_of_part { put ≡ min (element_len change) usize.MAX }
         ensures ok { IfOk result (λ made. made ≡ note_of previous next root.now change) }
     {
@@ -95,7 +95,7 @@ impl EditNote {
         next: u64,
         change: Change,
     ) -> Result<EditNote, NoMemory>
-        requires { IsOfDocument change }
+        requires { IsDocumentChange change }
         ensures any_tree { IfOk result
             (λ made. (t : Tree) → made ≡ note_of previous next t change) }
     {
@@ -107,7 +107,7 @@ impl EditNote {
             fresh: false,
             weight: 0,
         };
-        EditNote::keep(alloc, note)
+        EditNote::new_weighed(alloc, note)
     }
 
     /// A record by its parts, whatever tree they are of; `put` is `element_len` of the change.
@@ -135,11 +135,11 @@ impl EditNote {
             fresh,
             weight,
         };
-        EditNote::keep(alloc, note)
+        EditNote::new_weighed(alloc, note)
     }
 
     // A record with its weight.
-    fn keep(alloc: Global, note: KeptNote) -> Result<EditNote, NoMemory>
+    fn new_weighed(alloc: Global, note: KeptNote) -> Result<EditNote, NoMemory>
         requires weighed { IsWeighed note }
         ensures ok { IfOk result (λ made. made ≡ note_in note) }
     {

@@ -2,8 +2,9 @@
 ghost use Rattle.std.specs.Prelude.{◌≡◌, ◌≤◌, ◌+◌, ◌++◌, ◌∷◌, suc, All, IfSome, length};
 ghost use Rattle.std.specs.Option.{option_copied};
 ghost use Rattle.xml_tree.specs.declared.path.TheConstants.{PATH_LIMIT};
-ghost use Rattle.edit_ops.specs.MovedPaths.{path_below, closed_up, made_room, moved, under, unless};
-ghost use Rattle.xml_tree.specs.Edits.{own_number, parent_path};
+ghost use Rattle.edit_ops.specs.MovedPaths.{path_below, shift_after_remove, shift_after_insert};
+ghost use Rattle.edit_ops.specs.MovedPaths.{moved, change_path_below, if_none_then};
+ghost use Rattle.xml_tree.specs.Edits.{last_number, parent_path};
 
 use crate::change::Change;
 use xml_tree::Path;
@@ -44,7 +45,7 @@ fn append_numbers(path: Path, numbers: &[usize]) -> Path
 
 /// The path of a place, then a number, and more numbers. Together they are at most `PATH_LIMIT`.
 /// Does not allocate.
-pub fn through(place: &Path, number: usize, below: &[usize]) -> Path
+pub fn path_through(place: &Path, number: usize, below: &[usize]) -> Path
     requires { length place.now + suc (length below.now) ≤ PATH_LIMIT }
     ensures exact { result ≡ place.now ++ (number ∷ below.now) }
 {
@@ -55,9 +56,9 @@ pub fn through(place: &Path, number: usize, below: &[usize]) -> Path
 }
 
 // The path after an insertion in a gap of the element at `parent`.
-fn after_insertion(path: &Path, parent: &Path, gap: usize) -> Path
+fn path_after_insertion(path: &Path, parent: &Path, gap: usize) -> Path
     requires { All (λ n. n ≤ 4294967295) path.now }
-    ensures exact { result ≡ under (made_room gap) parent.now path.now }
+    ensures exact { result ≡ change_path_below (shift_after_insert gap) parent.now path.now }
 {
     let rest = match path_below(parent.numbers(), path.numbers()) {
         None => return path.copy(),
@@ -69,14 +70,14 @@ fn after_insertion(path: &Path, parent: &Path, gap: usize) -> Path
             if *number < gap {
                 return path.copy();
             }
-            through(parent, *number + 1, below)
+            path_through(parent, *number + 1, below)
         }
     }
 }
 
 // The path after the child `gone` of the element at `parent` was removed.
-fn after_removal(path: &Path, parent: &Path, gone: usize) -> Path
-    ensures exact { result ≡ under (closed_up gone) parent.now path.now }
+fn path_after_removal(path: &Path, parent: &Path, gone: usize) -> Path
+    ensures exact { result ≡ change_path_below (shift_after_remove gone) parent.now path.now }
 {
     let rest = match path_below(parent.numbers(), path.numbers()) {
         None => return path.copy(),
@@ -88,7 +89,7 @@ fn after_removal(path: &Path, parent: &Path, gone: usize) -> Path
             if *number <= gone {
                 return path.copy();
             }
-            through(parent, *number - 1, below)
+            path_through(parent, *number - 1, below)
         }
     }
 }
@@ -96,16 +97,17 @@ fn after_removal(path: &Path, parent: &Path, gone: usize) -> Path
 // The path after the element at a place, which isn't the root, was removed: None if it leads
 // there or through it.
 #[tactic(auto, using(crate::proofs::WayLemmas::parents))]
-fn after_cut(path: &Path, place: &Path) -> Option<Path>
-    ensures exact { result ≡ unless (path_below place.now path.now)
-        (under (closed_up (own_number place.now)) (parent_path place.now) path.now) }
+fn path_after_cut(path: &Path, place: &Path) -> Option<Path>
+    ensures exact { result ≡ if_none_then (path_below place.now path.now)
+        (change_path_below (shift_after_remove (last_number place.now)) (parent_path place.now)
+        path.now) }
 {
     if path_below(place.numbers(), path.numbers()).is_some() {
         return None;
     }
     match place.split_last() {
         None => None,
-        Some((parent, gone)) => Some(after_removal(path, &parent, gone)),
+        Some((parent, gone)) => Some(path_after_removal(path, &parent, gone)),
     }
 }
 
@@ -118,14 +120,14 @@ pub fn moved(path: &Path, change: &Change) -> Option<Path>
 {
     match change {
         Change::CreateDocument { .. } => None,
-        Change::Insert { parent, gap, .. } => Some(after_insertion(path, parent, *gap)),
+        Change::Insert { parent, gap, .. } => Some(path_after_insertion(path, parent, *gap)),
         Change::Replace { at, .. } => {
             if path_below(at.numbers(), path.numbers()).is_some() {
                 return None;
             }
             Some(path.copy())
         }
-        Change::Remove { at } => after_cut(path, at),
+        Change::Remove { at } => path_after_cut(path, at),
         Change::SetAttr { .. } => Some(path.copy()),
         Change::DropAttr { .. } => Some(path.copy()),
         Change::RemoveDocument => None,

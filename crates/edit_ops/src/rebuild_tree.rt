@@ -3,16 +3,16 @@ ghost use Rattle.std.specs.Prelude.{◌≡◌, ◌<◌, ◌≤◌, ◌++◌, [],
 ghost use Rattle.xml_tree.specs.Tree.{at, child_elements_of, last, tree_of};
 ghost use Rattle.xml_names.specs.Attributes.{with_attr, without_attr};
 ghost use Rattle.xml_tree.specs.Edits.{change_at, change_child, cut_child, drop_attr, put_kid};
-ghost use Rattle.xml_tree.specs.Edits.{write_attr};
+ghost use Rattle.xml_tree.specs.Edits.{set_attr_value};
 ghost use Rattle.xml_tree.specs.Nodes.{content_of};
 ghost use Rattle.xml_tree.specs.declared.tree.Node.TheVariants as node;
-ghost use Rattle.edit_ops.specs.Changes.{Fits, edited};
+ghost use Rattle.edit_ops.specs.Changes.{FitsTree, edited};
 ghost use Rattle.edit_ops.specs.inner.LocalChanges.{FitsLocally, local_result};
 
 use crate::change::{Change, site_of};
 use std::alloc::{AllocError, Global};
 use xml_names::{Attr, Decl, Name, Text};
-use xml_tree::{Element, Node, copy_nodes, copy_tree, place_of, place_of_gap};
+use xml_tree::{Element, Node, child_place, copy_nodes, copy_tree, place_of_insertion};
 
 // ---- an element, part by part
 
@@ -73,7 +73,7 @@ fn push_new_attr(
 }
 
 // Appends copies of attributes, with the value in the one of this name, or else in a new one.
-fn push_attrs_written(
+fn push_attrs_with(
     alloc: Global,
     made: &mut Element,
     attrs: &[Attr],
@@ -115,7 +115,7 @@ fn push_other_attrs(
 }
 
 // Gives an element without nodes copies of another element's nodes.
-fn close_like(alloc: Global, made: &mut Element, element: &Element) -> Result<(), AllocError>
+fn copy_nodes_into(alloc: Global, made: &mut Element, element: &Element) -> Result<(), AllocError>
     requires { made.old.content ≡ last [] }
     ensures adds_equal_nodes { OnOk result
         (made.new ≡ record made.old { content = element.now.content }) }
@@ -135,7 +135,7 @@ fn push_nodes(alloc: Global, made: &mut Vec<Node>, nodes: &[Node]) -> Result<(),
 }
 
 // Copies of nodes, an element, and copies of further nodes.
-fn nodes_around(
+fn copy_nodes_around(
     alloc: Global,
     before: &[Node],
     element: Element,
@@ -182,9 +182,9 @@ fn with_element(
     ensures ok { IfOk result (λ made. made ≡ put_kid gap put.now element.now) }
 {
     let nodes = element.nodes();
-    let (before, behind) = nodes.split_at(place_of_gap(nodes, gap));
+    let (before, behind) = nodes.split_at(place_of_insertion(nodes, gap));
     let put = copy_tree(alloc, put)?;
-    let nodes = nodes_around(alloc, before, put, behind)?;
+    let nodes = copy_nodes_around(alloc, before, put, behind)?;
     with_nodes(alloc, element, nodes)
 }
 
@@ -200,8 +200,8 @@ fn with_child(
     ensures ok { IfOk result (λ made. made ≡ change_child child (λ _. put) element.now) }
 {
     let nodes = element.nodes();
-    let at = place_of(nodes, child);
-    let nodes = nodes_around(alloc, nodes.split_at(at).0, put, nodes.split_at(at + 1).1)?;
+    let at = child_place(nodes, child);
+    let nodes = copy_nodes_around(alloc, nodes.split_at(at).0, put, nodes.split_at(at + 1).1)?;
     with_nodes(alloc, element, nodes)
 }
 
@@ -212,7 +212,7 @@ fn without_child(alloc: Global, element: &Element, child: usize) -> Result<Eleme
     ensures ok { IfOk result (λ made. made ≡ cut_child child element.now) }
 {
     let nodes = element.nodes();
-    let at = place_of(nodes, child);
+    let at = child_place(nodes, child);
     let nodes = join_nodes(alloc, nodes.split_at(at).0, nodes.split_at(at + 1).1)?;
     with_nodes(alloc, element, nodes)
 }
@@ -225,11 +225,11 @@ fn with_attr(
     value: &Text,
 ) -> Result<Element, AllocError>
     ensures writes_attribute { IfOk result
-        (λ made. made ≡ write_attr name.now value.now element.now) }
+        (λ made. made ≡ set_attr_value name.now value.now element.now) }
 {
     let mut made = bare_copy(alloc, element)?;
-    push_attrs_written(alloc, &mut made, element.attrs(), name, value)?;
-    close_like(alloc, &mut made, element)?;
+    push_attrs_with(alloc, &mut made, element.attrs(), name, value)?;
+    copy_nodes_into(alloc, &mut made, element)?;
     Ok(made)
 }
 
@@ -239,7 +239,7 @@ fn without_attr(alloc: Global, element: &Element, name: &Name) -> Result<Element
 {
     let mut made = bare_copy(alloc, element)?;
     push_other_attrs(alloc, &mut made, element.attrs(), name)?;
-    close_like(alloc, &mut made, element)?;
+    copy_nodes_into(alloc, &mut made, element)?;
     Ok(made)
 }
 
@@ -295,7 +295,7 @@ fn rebuild_below(
 /// # Errors
 /// `NoMemory` when out of memory.
 pub fn rebuilt(alloc: Global, root: &Element, change: &Change) -> Result<Element, AllocError>
-    requires { Fits root.now change.now }
+    requires { FitsTree root.now change.now }
     ensures makes_change { IfOk result (λ made. made ≡ edited root.now change.now) }
 {
     rebuild_below(alloc, root, site_of(change).numbers(), change)

@@ -1,12 +1,12 @@
 //! What a change record has of the tree that its change was made in.
 ghost use Rattle.std.specs.Prelude.{◌≡◌, is_none, IfOk, IsSome};
-ghost use Rattle.xml_names.specs.Attributes.{is_written_so};
+ghost use Rattle.xml_names.specs.Attributes.{has_qname};
 ghost use Rattle.xml_tree.specs.Tree.{at};
 ghost use Rattle.std.specs.List.{find, list_any};
 ghost use Rattle.xml_tree.specs.Edits.{attr_at};
-ghost use Rattle.xml_names.specs.Scopes.{bindings_in};
+ghost use Rattle.xml_names.specs.Scopes.{in_scope_bindings};
 ghost use Rattle.xml_tree.specs.TreeScopes.{scope_around, scope_at};
-ghost use Rattle.edit_ops.specs.Changes.{Fits};
+ghost use Rattle.edit_ops.specs.Changes.{FitsTree};
 ghost use Rattle.edit_ops.specs.Notes.{is_fresh, scope_of_place};
 
 use crate::Change;
@@ -19,7 +19,7 @@ use xml_tree::{Element, Path, Scope, element_at};
 // The bindings in scope at the element of a path.
 fn bindings_at(alloc: Global, root: &Element, path: &Path) -> Result<Vec<Decl>, AllocError>
     requires { IsSome (at path.now root.now) }
-    ensures ok { IfOk result (λ made. made.items ≡ bindings_in (scope_at path.now root.now)) }
+    ensures ok { IfOk result (λ made. made.items ≡ in_scope_bindings (scope_at path.now root.now)) }
 {
     match Scope::at(root, path) {
         Some(scope) => scope.bindings(alloc),
@@ -31,7 +31,8 @@ fn bindings_at(alloc: Global, root: &Element, path: &Path) -> Result<Vec<Decl>, 
 #[tactic(auto, using(crate::proofs::Around::around))]
 fn bindings_around(alloc: Global, root: &Element, path: &Path) -> Result<Vec<Decl>, AllocError>
     requires { IsSome (at path.now root.now) }
-    ensures ok { IfOk result (λ made. made.items ≡ bindings_in (scope_around path.now root.now)) }
+    ensures ok { IfOk result
+        (λ made. made.items ≡ in_scope_bindings (scope_around path.now root.now)) }
 {
     match path.split_last() {
         Some((parent, _)) => bindings_at(alloc, root, &parent),
@@ -46,9 +47,9 @@ pub(crate) fn bindings_of_place(
     root: &Element,
     change: &Change,
 ) -> Result<Vec<Decl>, AllocError>
-    requires { Fits root.now change.now }
+    requires { FitsTree root.now change.now }
     ensures ok { IfOk result
-        (λ made. made.items ≡ bindings_in (scope_of_place root.now change.now)) }
+        (λ made. made.items ≡ in_scope_bindings (scope_of_place root.now change.now)) }
 {
     match change {
         Change::CreateDocument { .. } => Ok(Vec::new(alloc)),
@@ -65,13 +66,13 @@ pub(crate) fn bindings_of_place(
 
 // Whether an element has an attribute of this name.
 fn has_attr(element: &Element, name: &Name) -> bool
-    ensures exact { result ≡ list_any (is_written_so name.now) element.now.attrs }
+    ensures exact { result ≡ list_any (has_qname name.now) element.now.attrs }
 {
     element.attrs().iter().any(|attr| attr.name.same(name))
 }
 
 fn lacks_attr(element: &Element, name: &Name) -> bool
-    ensures exact { result ≡ is_none (find (is_written_so name.now) element.now.attrs) }
+    ensures exact { result ≡ is_none (find (has_qname name.now) element.now.attrs) }
 {
     !has_attr(element, name)
 }

@@ -3,7 +3,7 @@
 ghost use Rattle.std.specs.Prelude.{◌≡◌, [], ◌∷◌, min};
 ghost use Rattle.xml_names.specs.Markup.{byte_len, print_name, print_text};
 ghost use Rattle.xml_tree.specs.PathTexts.{path_text, steps_text};
-ghost use Rattle.edit_ops.specs.inner.RecordLengths.{written_len};
+ghost use Rattle.edit_ops.specs.inner.OperationLengths.{value_text_len};
 
 use xml_names::{Name, SmallText, Text};
 use xml_tree::Path;
@@ -15,29 +15,29 @@ use xml_tree::Path;
 pub(crate) fn text_len(text: &Text) -> usize
     ensures exact { result ≡ min (byte_len (print_text text.now)) usize.MAX }
 {
-    xml_names::text_len(text.as_str().as_bytes())
+    xml_names::escaped_text_len(text.as_str().as_bytes())
 }
 
 // A value, without its quotes.
 #[tactic(auto, using(crate::proofs::Values::written))]
 pub(crate) fn value_len(value: &Text) -> usize
-    ensures exact { result ≡ min (written_len value.now) usize.MAX }
+    ensures exact { result ≡ min (value_text_len value.now) usize.MAX }
 {
-    xml_names::value_len(value.as_str().as_bytes())
+    xml_names::escaped_value_len(value.as_str().as_bytes())
 }
 
 // A part of a name, within a value.
 #[tactic(auto, using(crate::proofs::Values::written))]
 fn part_len<const N: usize>(part: &SmallText<N>) -> usize
-    ensures exact { result ≡ min (written_len part.now) usize.MAX }
+    ensures exact { result ≡ min (value_text_len part.now) usize.MAX }
 {
-    xml_names::value_len(part.as_str().as_bytes())
+    xml_names::escaped_value_len(part.as_str().as_bytes())
 }
 
 // A name within a value.
 #[tactic(auto, using(crate::proofs::Values::written))]
 pub(crate) fn name_len(name: &Name) -> usize
-    ensures exact { result ≡ min (written_len (print_name name.now)) usize.MAX }
+    ensures exact { result ≡ min (value_text_len (print_name name.now)) usize.MAX }
 {
     let local = part_len(&name.local);
     if name.prefix.is_empty() {
@@ -52,14 +52,14 @@ pub(crate) fn name_len(name: &Name) -> usize
 
 // One step: `/*[`, the number counted from 1, and `]`.
 pub(crate) fn step_len(number: usize) -> usize
-    ensures exact { result ≡ written_len (steps_text (number ∷ [])) }
+    ensures exact { result ≡ value_text_len (steps_text (number ∷ [])) }
 {
     (number as u128 + 1).ilog10() as usize + 5
 }
 
 // The positional selector of a place.
 pub(crate) fn path_len(path: &Path) -> usize
-    ensures exact { result ≡ min (written_len (path_text path.now)) usize.MAX }
+    ensures exact { result ≡ min (value_text_len (path_text path.now)) usize.MAX }
 {
     let mut total = 1usize;
     for number in path.numbers() {

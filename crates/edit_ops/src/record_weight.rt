@@ -4,11 +4,13 @@ ghost use Rattle.xml_tree.specs.Tree.{Tree};
 ghost use Rattle.xml_names.specs.Markup.{byte_len, print_attr, print_decl};
 ghost use Rattle.xml_tree.specs.Print.{print};
 ghost use Rattle.edit_ops.specs.declared.change.Change.TheVariants as change;
-ghost use Rattle.edit_ops.specs.Lengths.{element_len};
-ghost use Rattle.edit_ops.specs.Operations.{attr_path_text, gap_attrs, weight_of, change_operation};
-ghost use Rattle.edit_ops.specs.inner.RecordLengths.{bare_len as bare_sum};
-ghost use Rattle.edit_ops.specs.inner.RecordLengths.{filled_len as filled_sum};
-ghost use Rattle.edit_ops.specs.inner.RecordLengths.{valued_len as valued_sum, written_len};
+ghost use Rattle.edit_ops.specs.PrintedLengths.{element_len};
+ghost use Rattle.edit_ops.specs.DiffOperations.{attr_path_text, insertion_attrs, weight_of};
+ghost use Rattle.edit_ops.specs.DiffOperations.{change_operation};
+ghost use Rattle.edit_ops.specs.inner.OperationLengths.{empty_element_len as bare_sum};
+ghost use Rattle.edit_ops.specs.inner.OperationLengths.{full_element_len as filled_sum};
+ghost use Rattle.edit_ops.specs.inner.OperationLengths.{text_element_len as valued_sum};
+ghost use Rattle.edit_ops.specs.inner.OperationLengths.{value_text_len};
 
 use crate::Change;
 use crate::record_lengths::{name_len, path_len, step_len, text_len};
@@ -37,7 +39,7 @@ const AT: usize = 2;
 // ---- an operation by its parts
 
 // Without content; `word` and `attrs` are the lengths of its name and of its attributes.
-fn bare_len(word: usize, bindings: &[Decl], attrs: usize) -> usize
+fn empty_element_len(word: usize, bindings: &[Decl], attrs: usize) -> usize
     ensures exact { result
         ≡ min (bare_sum word (byte_len (flat_map print_decl bindings.now)) attrs) usize.MAX }
 {
@@ -48,7 +50,7 @@ fn bare_len(word: usize, bindings: &[Decl], attrs: usize) -> usize
 }
 
 // With content.
-fn filled_len(word: usize, bindings: &[Decl], attrs: usize, inside: usize) -> usize
+fn full_element_len(word: usize, bindings: &[Decl], attrs: usize, inside: usize) -> usize
     ensures exact { result
         ≡ min (filled_sum word (byte_len (flat_map print_decl bindings.now)) attrs inside)
         usize.MAX }
@@ -62,15 +64,15 @@ fn filled_len(word: usize, bindings: &[Decl], attrs: usize, inside: usize) -> us
 }
 
 // With a value as its text.
-fn valued_len(word: usize, bindings: &[Decl], attrs: usize, value: &Text) -> usize
+fn text_element_len(word: usize, bindings: &[Decl], attrs: usize, value: &Text) -> usize
     ensures exact { result
         ≡ min (valued_sum word (byte_len (flat_map print_decl bindings.now)) attrs value.now)
         usize.MAX }
 {
     if value.is_empty() {
-        return bare_len(word, bindings, attrs);
+        return empty_element_len(word, bindings, attrs);
     }
-    filled_len(word, bindings, attrs, text_len(value))
+    full_element_len(word, bindings, attrs, text_len(value))
 }
 
 // ---- each operation
@@ -78,7 +80,7 @@ fn valued_len(word: usize, bindings: &[Decl], attrs: usize, value: &Text) -> usi
 // The attributes that say where an element is inserted.
 fn gap_len(parent: &Path, gap: usize) -> usize
     ensures exact { result
-        ≡ min (byte_len (flat_map print_attr (gap_attrs parent.now gap))) usize.MAX }
+        ≡ min (byte_len (flat_map print_attr (insertion_attrs parent.now gap))) usize.MAX }
 {
     let sel = path_len(parent).saturating_add(SEL);
     if gap == 0 {
@@ -94,7 +96,7 @@ fn insertion_len(bindings: &[Decl], parent: &Path, gap: usize, put: usize) -> us
         (print (change_operation (codes "d") bindings.now false (change.Insert parent.now gap e))))
         usize.MAX }
 {
-    filled_len(ADD, bindings, gap_len(parent, gap), put)
+    full_element_len(ADD, bindings, gap_len(parent, gap), put)
 }
 
 // A replacement by an element of `put` bytes.
@@ -106,7 +108,7 @@ fn replacement_len(bindings: &[Decl], at: &Path, put: usize) -> usize
         usize.MAX }
 {
     let attrs = path_len(at).saturating_add(SEL);
-    filled_len(REPLACE, bindings, attrs, put)
+    full_element_len(REPLACE, bindings, attrs, put)
 }
 
 fn removal_len(bindings: &[Decl], at: &Path) -> usize
@@ -116,29 +118,29 @@ fn removal_len(bindings: &[Decl], at: &Path) -> usize
         usize.MAX }
 {
     let attrs = path_len(at).saturating_add(SEL);
-    bare_len(REMOVE, bindings, attrs)
+    empty_element_len(REMOVE, bindings, attrs)
 }
 
 // The attribute that selects an attribute.
 fn attr_len(at: &Path, name: &Name) -> usize
-    ensures exact { result ≡ min (written_len (attr_path_text at.now name.now) + 7) usize.MAX }
+    ensures exact { result ≡ min (value_text_len (attr_path_text at.now name.now) + 7) usize.MAX }
 {
     path_len(at)
         .saturating_add(name_len(name))
         .saturating_add(AT + SEL)
 }
 
-fn drop_len(bindings: &[Decl], at: &Path, name: &Name) -> usize
+fn attr_removal_len(bindings: &[Decl], at: &Path, name: &Name) -> usize
     ensures exact { result
         ≡ min (byte_len (print
         (change_operation (codes "d") bindings.now false (change.DropAttr at.now name.now))))
         usize.MAX }
 {
-    bare_len(REMOVE, bindings, attr_len(at, name))
+    empty_element_len(REMOVE, bindings, attr_len(at, name))
 }
 
 // A new attribute.
-fn addition_len(bindings: &[Decl], at: &Path, name: &Name, value: &Text) -> usize
+fn attr_addition_len(bindings: &[Decl], at: &Path, name: &Name, value: &Text) -> usize
     ensures exact { result
         ≡ min (byte_len (print
         (change_operation (codes "d") bindings.now true
@@ -148,21 +150,21 @@ fn addition_len(bindings: &[Decl], at: &Path, name: &Name, value: &Text) -> usiz
     let attrs = path_len(at)
         .saturating_add(name_len(name))
         .saturating_add(SEL + TYPE);
-    valued_len(ADD, bindings, attrs, value)
+    text_element_len(ADD, bindings, attrs, value)
 }
 
 // An existing attribute with a new value.
-fn rewriting_len(bindings: &[Decl], at: &Path, name: &Name, value: &Text) -> usize
+fn attr_replacement_len(bindings: &[Decl], at: &Path, name: &Name, value: &Text) -> usize
     ensures exact { result
         ≡ min (byte_len (print
         (change_operation (codes "d") bindings.now false
         (change.SetAttr at.now name.now value.now))))
         usize.MAX }
 {
-    valued_len(REPLACE, bindings, attr_len(at, name), value)
+    text_element_len(REPLACE, bindings, attr_len(at, name), value)
 }
 
-fn writing_len(bindings: &[Decl], at: &Path, name: &Name, value: &Text, fresh: bool) -> usize
+fn attr_change_len(bindings: &[Decl], at: &Path, name: &Name, value: &Text, fresh: bool) -> usize
     ensures exact { result
         ≡ min (byte_len (print
         (change_operation (codes "d") bindings.now fresh
@@ -170,9 +172,9 @@ fn writing_len(bindings: &[Decl], at: &Path, name: &Name, value: &Text, fresh: b
         usize.MAX }
 {
     if fresh {
-        return addition_len(bindings, at, name, value);
+        return attr_addition_len(bindings, at, name, value);
     }
-    rewriting_len(bindings, at, name, value)
+    attr_replacement_len(bindings, at, name, value)
 }
 
 // The length in bytes of the operation of a change, as an xcap-diff document with the prefix `d`
@@ -188,8 +190,8 @@ pub(crate) fn weight(bindings: &[Decl], fresh: bool, change: &Change, put: usize
         Change::Insert { parent, gap, .. } => insertion_len(bindings, parent, *gap, put),
         Change::Replace { at, .. } => replacement_len(bindings, at, put),
         Change::Remove { at } => removal_len(bindings, at),
-        Change::SetAttr { at, name, value } => writing_len(bindings, at, name, value, fresh),
-        Change::DropAttr { at, name } => drop_len(bindings, at, name),
+        Change::SetAttr { at, name, value } => attr_change_len(bindings, at, name, value, fresh),
+        Change::DropAttr { at, name } => attr_removal_len(bindings, at, name),
         Change::RemoveDocument => 0,
     }
 }

@@ -1,6 +1,6 @@
 //! The element that a recorded change inserts, shared with the record.
 ghost use Rattle.std.specs.Prelude.{◌≡◌, IfErr, IfOk};
-ghost use Rattle.edit_ops.specs.InsertedElements.{BringsElement, inserted_part};
+ghost use Rattle.edit_ops.specs.InsertedElements.{InsertsElement, inserted_element};
 
 use crate::edit_note::EditNote;
 use crate::{Change, NoMemory};
@@ -17,22 +17,22 @@ pub struct RecordedTree {
 
 impl Model for RecordedTree {
     ghost use Rattle.xml_tree.specs.Tree.{Tree};
-    ghost use Rattle.xml_tree.specs.inner.Codes.{tree_code};
-    ghost use Rattle.edit_ops.specs.InsertedElements.{BringsElement, inserted_part};
+    ghost use Rattle.xml_tree.specs.inner.TreeCodes.{tree_code};
+    ghost use Rattle.edit_ops.specs.InsertedElements.{InsertsElement, inserted_element};
 
     ghost Value = { Tree };
 
     ghost coded = { tree_code };
 
-    ghost view = { λ t. inserted_part t.note.change };
+    ghost view = { λ t. inserted_element t.note.change };
 
-    ghost invariant = { λ t. BringsElement t.note.change };
+    ghost invariant = { λ t. InsertsElement t.note.change };
 }
 
 // The element that a change inserts.
 fn element_of(change: &Change) -> &Element
-    requires { BringsElement change.now }
-    ensures lends_element { result.now ≡ inserted_part change.now }
+    requires { InsertsElement change.now }
+    ensures lends_element { result.now ≡ inserted_element change.now }
 {
     match change {
         Change::CreateDocument { root } => root,
@@ -44,8 +44,8 @@ fn element_of(change: &Change) -> &Element
 
 // The element that a change inserts, taken out of it.
 fn into_element(change: Change) -> Element
-    requires { BringsElement change }
-    ensures exact { result ≡ inserted_part change }
+    requires { InsertsElement change }
+    ensures exact { result ≡ inserted_element change }
 {
     match change {
         Change::CreateDocument { root } => root,
@@ -61,8 +61,8 @@ impl RecordedTree {
     /// # Errors
     /// `NoMemory` where the record is shared too often.
     pub fn of(note: &EditNote) -> Result<RecordedTree, NoMemory>
-        requires { BringsElement note.now.change }
-        ensures ok { IfOk result (λ tree. tree ≡ inserted_part note.now.change) }
+        requires { InsertsElement note.now.change }
+        ensures ok { IfOk result (λ tree. tree ≡ inserted_element note.now.change) }
     {
         let note = note.copy()?;
         Ok(RecordedTree { note })

@@ -11,9 +11,9 @@ use Rattle.node_select.specs.declared.selector.Step.{Step}
 use Rattle.node_select.specs.Selection.{SelectsChild, is_named, is_tested}
 use Rattle.usage_docs.specs.declared.schema_table.ElementKind.{ElementKind}
 use Rattle.usage_docs.specs.SchemaTable.{Scope}
-use Rattle.usage_docs.specs.readers.Parts.{follows, end}
-use Rattle.usage_docs.specs.readers.Gaps.{part_before, part_after}
-use Rattle.edit_rules.specs.Removals.{StillSelects, ClosesUp}
+use Rattle.usage_docs.specs.readers.ContentParts.{may_follow, end_part}
+use Rattle.usage_docs.specs.readers.NeighbourParts.{part_before, part_after}
+use Rattle.edit_rules.specs.Removals.{StillSelectsChild, NeighboursMayMeet}
 use Rattle.edit_plans.specs.inner.Neighbours.{part_in}
 use Rattle.edit_rules.proofs.RemovedElements.{get_removed}
 use Rattle.edit_plans.proofs.ParentAnswers.{true_false}
@@ -71,7 +71,7 @@ module _ {A : Type 0} (named tested : A → Bool) (xs : List A) (j : ℕ) where
 
 -- ---- what is still selected
 
-pub none_still : (c : Scope) (step : Step) (child_elements : List Tree) (j : ℕ) → step.position ≡ None → SelectsChild c step child_elements j → StillSelects c step child_elements j → ⊥
+pub none_still : (c : Scope) (step : Step) (child_elements : List Tree) (j : ℕ) → step.position ≡ None → SelectsChild c step child_elements j → StillSelectsChild c step child_elements j → ⊥
 none_still c step child_elements j none s h =
     let was = subst (λ (p : Option ℕ). Selects (is_named c step) (is_tested c step) p child_elements j) none s in
     let now = subst (λ (p : Option ℕ). Selects (is_named c step) (is_tested c step) p (remove child_elements j) h.0) none h.1 in
@@ -85,7 +85,7 @@ one_next named tested xs j i k a b = by (cases_order k i)
     by (inr (inl lt)) = absurd (true_false (named b.child_element) b.is_named (a.first k b.child_element b.not_before lt b.there))
     by (inr (inr lt)) = absurd (true_false (named a.child_element) a.is_named (b.first i a.child_element a.not_before lt a.there))
 
-pub still_by_next : (c : Scope) (step : Step) (child_elements : List Tree) (j n : ℕ) → step.position ≡ Some n → SelectsChild c step child_elements j → StillSelects c step child_elements j ↔ ((i : ℕ) × IsNextMatch (is_named c step) (is_tested c step) (remove child_elements j) j i)
+pub still_by_next : (c : Scope) (step : Step) (child_elements : List Tree) (j n : ℕ) → step.position ≡ Some n → SelectsChild c step child_elements j → StillSelectsChild c step child_elements j ↔ ((i : ℕ) × IsNextMatch (is_named c step) (is_tested c step) (remove child_elements j) j i)
 still_by_next c step child_elements j n is s = (
   λ h. (h.0, (next h.0).0 (subst (λ (p : Option ℕ). Selects N T p (remove child_elements j) h.0) is h.1).this),
   λ h. (
@@ -112,15 +112,15 @@ pub right_kid : (row : Option ElementKind) (c : Scope) (content : Content) (j i 
 right_kid row c content j i child_element next same there is =
     subst (λ (k : ℕ). ForSome row (λ kind. next ≡ part_after kind c k content)) same (after_kid row c content i child_element next there is)
 
-pub right_end : (row : Option ElementKind) (c : Scope) (content : Content) (j : ℕ) → length (child_elements content) ≤ suc j → ForSome row (λ kind. end ≡ part_after kind c (suc j) content)
+pub right_end : (row : Option ElementKind) (c : Scope) (content : Content) (j : ℕ) → length (child_elements content) ≤ suc j → ForSome row (λ kind. end_part ≡ part_after kind c (suc j) content)
 right_end row c content j le kind is = sym (after_end kind c content (suc j) le)
 
 pub closes_by : (row : Option ElementKind) (c : Scope) (content : Content) (j : ℕ) (kind : ElementKind) (left right : ℕ) (b : Bool) → row ≡ Some kind → ForSome row (λ k. left ≡ part_before k c 0 j content) → ForSome row (λ k. right ≡ part_after k c (suc j) content)
-    → b ≡ follows kind left right → IsTrue b ↔ ClosesUp row c content j
+    → b ≡ may_follow kind left right → IsTrue b ↔ NeighboursMayMeet row c content j
 closes_by row c content j kind left right b is low high test =
-    let same : b ≡ follows kind (part_before kind c 0 j content) (part_after kind c (suc j) content) =
-    test ∙ ap (λ (n : ℕ). follows kind n right) (low kind is) ∙ ap (follows kind (part_before kind c 0 j content)) (high kind is) in (
-      λ h k at. subst (λ (x : ElementKind). IsTrue (follows x (part_before x c 0 j content) (part_after x c (suc j) content))) (same_Some kind k (sym is ∙ at)) (sym same ∙ h),
+    let same : b ≡ may_follow kind (part_before kind c 0 j content) (part_after kind c (suc j) content) =
+    test ∙ ap (λ (n : ℕ). may_follow kind n right) (low kind is) ∙ ap (may_follow kind (part_before kind c 0 j content)) (high kind is) in (
+      λ h k at. subst (λ (x : ElementKind). IsTrue (may_follow x (part_before x c 0 j content) (part_after x c (suc j) content))) (same_Some kind k (sym is ∙ at)) (sym same ∙ h),
       λ h. same ∙ h kind is,
     )
 

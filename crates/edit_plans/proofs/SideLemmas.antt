@@ -6,16 +6,16 @@ use Rattle.std.specs.Option.{ForSome}
 use Rattle.std.proofs.lemmas.Option.{same_Some, none-some, slice_get_within}
 use Rattle.std.proofs.lemmas.Bool.{cases_lt}
 use Rattle.node_select.specs.StepSelection.{IsAtPosition, Matches, is_at_position}
-use Rattle.node_select.specs.InsertionPoints.{IsFree, IsLawfulInsertion, IsInsertionPlan}
+use Rattle.node_select.specs.InsertionPoints.{AllowsInsertion, IsLawfulInsertion, IsInsertionPlan}
 use Rattle.node_select.proofs.SelectionAgreement.{is_at_position_is}
 use Rattle.node_select.proofs.GapLaws.{lawful_by_count, lawful_free}
 use Rattle.xml_tree.specs.Tree.{Content, last, more, comment_node, Tree, tree_of, child_elements}
 use Rattle.usage_docs.specs.declared.schema_table.ElementKind.{ElementKind}
 use Rattle.usage_docs.specs.SchemaTable.{Scope}
-use Rattle.usage_docs.specs.readers.Parts.{follows, end}
-use Rattle.usage_docs.specs.Validity.{ValidChild}
-use Rattle.usage_docs.specs.readers.Gaps.{FollowsGap, part_of_child, part_before, part_after}
-use Rattle.edit_plans.specs.inner.Neighbours.{part_in, fits_between, FitsIn, FitsOver, FitsPlace}
+use Rattle.usage_docs.specs.readers.ContentParts.{may_follow, end_part}
+use Rattle.usage_docs.specs.Validity.{IsValidChild}
+use Rattle.usage_docs.specs.readers.NeighbourParts.{FitsGapByParts, part_of_child, part_before, part_after}
+use Rattle.edit_plans.specs.inner.Neighbours.{part_in, fits_between, FitsInsertionPoint, FitsReplacement, FitsInPlaceOfChild}
 use Rattle.edit_plans.proofs.ParentAnswers.{true_false}
 
 -- ---- the children beside an insertion point
@@ -28,7 +28,7 @@ module _ (row : ElementKind) (c : Scope) where
   after_is (comment_node t x rest) zero child_element h = after_is rest zero child_element h
   after_is (comment_node t x rest) (suc j) child_element h = after_is rest (suc j) child_element h
 
-  pub after_end : (content : Content) (j : ℕ) → length (child_elements content) ≤ j → part_after row c j content ≡ end
+  pub after_end : (content : Content) (j : ℕ) → length (child_elements content) ≤ j → part_after row c j content ≡ end_part
   after_end (last t) zero h = refl
   after_end (last t) (suc j) h = refl
   after_end (more t n ds ats k rest) zero h = absurd (omega arith)
@@ -49,7 +49,7 @@ pub before_kid : (row : Option ElementKind) (c : Scope) (content : Content) (j j
 before_kid row c content j j' child_element next step there h kind is =
     h ∙ ap (λ (o : Option ElementKind). part_in o c child_element) is ∙ sym (before_is kind c content 0 j child_element there) ∙ ap (λ (n : ℕ). part_before kind c 0 n content) (sym step)
 
-pub end_behind : (row : Option ElementKind) (c : Scope) (content : Content) (j : ℕ) → j ≡ length (child_elements content) → ForSome row (λ kind. end ≡ part_after kind c j content)
+pub end_behind : (row : Option ElementKind) (c : Scope) (content : Content) (j : ℕ) → j ≡ length (child_elements content) → ForSome row (λ kind. end_part ≡ part_after kind c j content)
 end_behind row c content j same kind is = sym (after_end kind c content j (omega arith))
 
 three : (a b c : Bool) → IsTrue (a && (b && c)) ↔ (IsTrue a × IsTrue b × IsTrue c)
@@ -57,39 +57,39 @@ three true true c = (λ h. (refl, refl, h), λ h. h.2)
 three true false c = (λ h. cc, λ h. let f : false ≡ true = h.1 in cc)
 three false b c = (λ h. cc, λ h. let f : false ≡ true = h.0 in cc)
 
-fits_by : (kind : ElementKind) (itself : Bool) (V : Type 0) (b b' p p' a a' : ℕ) → (IsTrue itself ↔ V) → b ≡ b' → p ≡ p' → a ≡ a' → IsTrue (itself && (follows kind b p && follows kind p a)) ↔ (V × IsTrue (follows kind b' p') × IsTrue (follows kind p' a'))
+fits_by : (kind : ElementKind) (itself : Bool) (V : Type 0) (b b' p p' a a' : ℕ) → (IsTrue itself ↔ V) → b ≡ b' → p ≡ p' → a ≡ a' → IsTrue (itself && (may_follow kind b p && may_follow kind p a)) ↔ (V × IsTrue (may_follow kind b' p') × IsTrue (may_follow kind p' a'))
 fits_by kind itself V b b' p p' a a' valid sb sp sa =
-    let t = three itself (follows kind b p) (follows kind p a) in
-    let low : follows kind b p ≡ follows kind b' p' = ap (λ (n : ℕ). follows kind n p) sb ∙ ap (follows kind b') sp in
-    let high : follows kind p a ≡ follows kind p' a' = ap (λ (n : ℕ). follows kind n a) sp ∙ ap (follows kind p') sa in (
+    let t = three itself (may_follow kind b p) (may_follow kind p a) in
+    let low : may_follow kind b p ≡ may_follow kind b' p' = ap (λ (n : ℕ). may_follow kind n p) sb ∙ ap (may_follow kind b') sp in
+    let high : may_follow kind p a ≡ may_follow kind p' a' = ap (λ (n : ℕ). may_follow kind n a) sp ∙ ap (may_follow kind p') sa in (
       λ h. let x = t.0 h in (valid.0 x.0, sym low ∙ x.1, sym high ∙ x.2),
       λ h. t.1 (valid.1 h.0, low ∙ h.1, high ∙ h.2),
     )
 
 pub fits_is : (row : Option ElementKind) (c : Scope) (content : Content) (new : Tree) (j : ℕ) (itself valid : Bool) (before part after : ℕ)
-    → ForSome row (λ kind. IsTrue itself ↔ ValidChild kind c new) → part ≡ part_in row c new → ForSome row (λ kind. before ≡ part_before kind c 0 j content) → ForSome row (λ kind. after ≡ part_after kind c j content)
-    → valid ≡ fits_between row itself before part after → IsTrue valid ↔ FitsIn row c content new j
+    → ForSome row (λ kind. IsTrue itself ↔ IsValidChild kind c new) → part ≡ part_in row c new → ForSome row (λ kind. before ≡ part_before kind c 0 j content) → ForSome row (λ kind. after ≡ part_after kind c j content)
+    → valid ≡ fits_between row itself before part after → IsTrue valid ↔ FitsInsertionPoint row c content new j
 fits_is None c content new j itself valid before part after v p b a is = (λ h kind some. absurd (none-some kind some), λ h. is)
 fits_is (Some kind) c content new j itself valid before part after v p b a is =
-    let f = fits_by kind itself (ValidChild kind c new) before (part_before kind c 0 j content) part (part_of_child kind c new) after (part_after kind c j content) (v kind refl) (b kind refl) p (a kind refl) in (
-      λ h k some. subst (λ (x : ElementKind). FollowsGap x c content new j) (same_Some kind k some) (f.0 (sym is ∙ h)),
+    let f = fits_by kind itself (IsValidChild kind c new) before (part_before kind c 0 j content) part (part_of_child kind c new) after (part_after kind c j content) (v kind refl) (b kind refl) p (a kind refl) in (
+      λ h k some. subst (λ (x : ElementKind). FitsGapByParts x c content new j) (same_Some kind k some) (f.0 (sym is ∙ h)),
       λ h. is ∙ f.1 (h kind refl),
     )
 
 -- the children beside a replaced one
 pub over_is : (row : Option ElementKind) (c : Scope) (content : Content) (new : Tree) (i : ℕ) (itself valid : Bool) (before part after : ℕ)
-    → ForSome row (λ kind. IsTrue itself ↔ ValidChild kind c new) → part ≡ part_in row c new → ForSome row (λ kind. before ≡ part_before kind c 0 i content) → ForSome row (λ kind. after ≡ part_after kind c (suc i) content)
-    → valid ≡ fits_between row itself before part after → IsTrue valid ↔ FitsOver row c content new i
+    → ForSome row (λ kind. IsTrue itself ↔ IsValidChild kind c new) → part ≡ part_in row c new → ForSome row (λ kind. before ≡ part_before kind c 0 i content) → ForSome row (λ kind. after ≡ part_after kind c (suc i) content)
+    → valid ≡ fits_between row itself before part after → IsTrue valid ↔ FitsReplacement row c content new i
 over_is None c content new i itself valid before part after v p b a is = (λ h kind some. absurd (none-some kind some), λ h. is)
 over_is (Some kind) c content new i itself valid before part after v p b a is =
-    let f = fits_by kind itself (ValidChild kind c new) before (part_before kind c 0 i content) part (part_of_child kind c new) after (part_after kind c (suc i) content) (v kind refl) (b kind refl) p (a kind refl) in (
-      λ h k some. subst (λ (x : ElementKind). FitsPlace x c content new i) (same_Some kind k some) (f.0 (sym is ∙ h)),
+    let f = fits_by kind itself (IsValidChild kind c new) before (part_before kind c 0 i content) part (part_of_child kind c new) after (part_after kind c (suc i) content) (v kind refl) (b kind refl) p (a kind refl) in (
+      λ h k some. subst (λ (x : ElementKind). FitsInPlaceOfChild x c content new i) (same_Some kind k some) (f.0 (sym is ∙ h)),
       λ h. is ∙ f.1 (h kind refl),
     )
 
 -- ---- the number before an insertion point decides, where the rest is known
 
-pub lawful_here : (named tested : Tree → Bool) (position : Option ℕ) (xs : List Tree) (e : Tree) (gap before : ℕ) (lawful : Bool) → gap ≤ length xs → IsTrue (named e) → IsTrue (tested e) → IsFree named tested position xs → before ≡ count_by named (take gap xs)
+pub lawful_here : (named tested : Tree → Bool) (position : Option ℕ) (xs : List Tree) (e : Tree) (gap before : ℕ) (lawful : Bool) → gap ≤ length xs → IsTrue (named e) → IsTrue (tested e) → AllowsInsertion named tested position xs → before ≡ count_by named (take gap xs)
     → lawful ≡ is_at_position position before → IsTrue lawful ↔ IsLawfulInsertion named tested position xs e gap
 lawful_here named tested position xs e gap before lawful le n t free counted is =
     let p = is_at_position_is position before in
@@ -102,12 +102,12 @@ none_planned : {E : Type 0} (unlawful invalid : E) (L V : ℕ → Type 0) (many 
 none_planned unlawful invalid L V many h = inl (refl, record { none = h })
 
 module _ {E : Type 0} (unlawful invalid : E) (named tested : Tree → Bool) (position : Option ℕ) (xs : List Tree) (e : Tree) (V : ℕ → Type 0) where
-  pub not_free : (IsFree named tested position xs → ⊥) → IsInsertionPlan unlawful invalid (IsLawfulInsertion named tested position xs e) V (length xs + 1) (Err unlawful)
+  pub not_free : (AllowsInsertion named tested position xs → ⊥) → IsInsertionPlan unlawful invalid (IsLawfulInsertion named tested position xs e) V (length xs + 1) (Err unlawful)
   not_free no_room = none_planned unlawful invalid (IsLawfulInsertion named tested position xs e) V (length xs) (λ k lt l. no_room (lawful_free named tested position xs e k (omega arith) l))
 
 -- ---- the last insertion point of all, where the step has no position
 
-pub last_of_all : {E : Type 0} (unlawful invalid : E) (named tested : Tree → Bool) (position : Option ℕ) (xs : List Tree) (e : Tree) (V : ℕ → Type 0) (many : ℕ) → many ≡ length xs → position ≡ None → IsTrue (named e) → IsTrue (tested e) → IsFree named tested position xs → V many
+pub last_of_all : {E : Type 0} (unlawful invalid : E) (named tested : Tree → Bool) (position : Option ℕ) (xs : List Tree) (e : Tree) (V : ℕ → Type 0) (many : ℕ) → many ≡ length xs → position ≡ None → IsTrue (named e) → IsTrue (tested e) → AllowsInsertion named tested position xs → V many
     → IsInsertionPlan unlawful invalid (IsLawfulInsertion named tested position xs e) V (length xs + 1) (Ok many)
 last_of_all unlawful invalid named tested position xs e V many same none n t free fits =
     let before = count_by named (take many xs) in
@@ -139,21 +139,21 @@ none_more named tested xs i i' x next there fails none k lt m =
     ]
 
 pub none_at_all : {A : Type 0} (named tested : A → Bool) (xs : List A) (n : ℕ) → n ≡ length xs → NoneUpTo named tested xs n → (k : ℕ) × Matches named tested None xs k → ⊥
-none_at_all named tested xs n end none (k, m) = none k (let lt = slice_get_within xs k m.child_element m.there in omega arith) m
+none_at_all named tested xs n end_part none (k, m) = none k (let lt = slice_get_within xs k m.child_element m.there in omega arith) m
 
 -- a plan at equal numbers and results
 pub plan_at : {E : Type 0} (unlawful invalid : E) (L V : ℕ → Type 0) (n n' : ℕ) (r r' : Result ℕ E) → n' ≡ n → r' ≡ r → IsInsertionPlan unlawful invalid L V n r → IsInsertionPlan unlawful invalid L V n' r'
 plan_at {E = E} unlawful invalid L V n n' r r' sn sr h = subst (λ (k : ℕ). IsInsertionPlan unlawful invalid L V k r') (sym sn) (subst (λ (x : Result ℕ E). IsInsertionPlan unlawful invalid L V n x) (sym sr) h)
 
 -- the test that no other child keeps the new one from being selected
-pub free_none : (named tested : Tree → Bool) (position : Option ℕ) (xs : List Tree) (some free : Bool) → position ≡ None → free ≡ not some → IsTrue some ↔ ((k : ℕ) × Matches named tested None xs k) → IsTrue free ↔ IsFree named tested position xs
+pub free_none : (named tested : Tree → Bool) (position : Option ℕ) (xs : List Tree) (some free : Bool) → position ≡ None → free ≡ not some → IsTrue some ↔ ((k : ℕ) × Matches named tested None xs k) → IsTrue free ↔ AllowsInsertion named tested position xs
 free_none named tested position xs true free none is found =
-    subst (λ (p : Option ℕ). IsTrue free ↔ IsFree named tested p xs) (sym none) (
+    subst (λ (p : Option ℕ). IsTrue free ↔ AllowsInsertion named tested p xs) (sym none) (
       λ h. let z : true ≡ false = sym h ∙ is in cc,
       λ f. let m = found.0 refl in absurd (f m.0 m.1),
     )
 free_none named tested position xs false free none is found =
-    subst (λ (p : Option ℕ). IsTrue free ↔ IsFree named tested p xs) (sym none) (
+    subst (λ (p : Option ℕ). IsTrue free ↔ AllowsInsertion named tested p xs) (sym none) (
       λ h k m. true_false false (found.1 (k, m)) refl,
       λ f. is,
     )

@@ -3,7 +3,7 @@ use Rattle.std.specs.Prelude.{is_some, not}
 use Rattle.std.proofs.Common.{◌≡◌, ◌⊎◌, inl, inr, ℕ, zero, suc, ◌<◌, ◌≤◌, ◌+◌, ◌-◌, Bool, true, false, IsTrue, List, [], ◌∷◌, ◌++◌, length, length-append, take, Option, None, Some, refl, sym, ap, ◌∙◌, subst, arith}
 use Rattle.std.proofs.lemmas.Bool.{cases_lt}
 use Rattle.xml_tree.specs.Tree.{Tree}
-use Rattle.node_select.specs.Selection.{IsLongestMatch, SelectsPath, selected_in}
+use Rattle.node_select.specs.Selection.{IsLongestMatch, SelectsPath, selected_element_path}
 use Rattle.node_select.proofs.ReachLemmas.{path_is}
 use Rattle.std.proofs.lemmas.Option.{none-some}
 use Rattle.node_select.specs.declared.selector.Step.{Step}
@@ -14,7 +14,7 @@ use Rattle.edit_rules.specs.declared.spot.Spot.{Spot}
 use Rattle.edit_rules.specs.declared.spot.Spot.TheVariants.{Over, Under, Beside, Value}
 use Rattle.edit_rules.specs.Spots.{EndsInAttribute, IsSpotOf, SelectNothing, SelectsParent}
 use Rattle.node_select.specs.declared.descent.Reached.{Reached}
-use Rattle.edit_plans.specs.inner.LongestMatches.{Reaches}
+use Rattle.edit_plans.specs.inner.LongestMatches.{ReachesElement}
 
 whole : {A : Type 0} (xs : List A) → take (length xs) xs ≡ xs
 whole [] = refl
@@ -93,11 +93,11 @@ none_by (Some x) b h t = let e : true ≡ false = h ∙ ap not t in cc
 pub some_by : {A : Type 0} (o : Option A) (b : Bool) → is_some o ≡ not b → b ≡ false → o ≡ None → ⊥
 some_by o b h f none = let e : false ≡ true = sym (ap is_some none) ∙ h ∙ ap not f in cc
 
-pub nothing : (steps : List Step) (t : Tree) (o : Option (List ℕ)) → o ≡ selected_in steps t → o ≡ None → SelectNothing steps t
+pub nothing : (steps : List Step) (t : Tree) (o : Option (List ℕ)) → o ≡ selected_element_path steps t → o ≡ None → SelectNothing steps t
 nothing steps t o is none p h = none-some p (sym none ∙ is ∙ (path_is steps t p).1 h)
 
 -- where something is selected, and only the root can be
-pub selected_some : (steps : List Step) (t : Tree) (o : Option (List ℕ)) → o ≡ selected_in steps t → (o ≡ None → ⊥) → ((p : List ℕ) → SelectsPath steps t p → p ≡ []) → SelectsPath steps t []
+pub selected_some : (steps : List Step) (t : Tree) (o : Option (List ℕ)) → o ≡ selected_element_path steps t → (o ≡ None → ⊥) → ((p : List ℕ) → SelectsPath steps t p → p ≡ []) → SelectsPath steps t []
 selected_some steps t None is some alone = absurd (some refl)
 selected_some steps t (Some p) is some alone =
     let h = (path_is steps t p).0 (sym is) in
@@ -109,7 +109,7 @@ some_number : (n : ℕ) → (n ≡ 0 → ⊥) → 0 < n
 some_number zero h = absurd (h refl)
 some_number (suc n) h = omega arith
 
-module _ (t : Tree) (selector : Selector) (many : ℕ) (reached : Reached) (is_many : many ≡ length selector.steps) (r : Reaches selector.steps t reached) where
+module _ (t : Tree) (selector : Selector) (many : ℕ) (reached : Reached) (is_many : many ≡ length selector.steps) (r : ReachesElement selector.steps t reached) where
   abbrev k : ℕ
   k = reached.steps
 

@@ -10,8 +10,8 @@ use Rattle.xml_tree.specs.Tree.{Content}
 use Rattle.xml_names.specs.declared.names.Attr.{Attr}
 use Rattle.usage_docs.specs.declared.schema_table.ElementKind.{ElementKind}
 use Rattle.usage_docs.specs.declared.schema_table.ElementKind.TheVariants.{ResourceLists, EntryList, Entry, EntryRef, External, DisplayName, RlsServices, Service, ResourceList, Packages, Package}
-use Rattle.usage_docs.specs.Forms.{is_formed}
-use Rattle.edit_rules.specs.Tags.{are_attrs_formed}
+use Rattle.usage_docs.specs.ReferenceForms.{are_references_formed}
+use Rattle.edit_rules.specs.StartTags.{are_attrs_formed}
 
 -- ---- an element that has a kind, and whose parent has one
 
@@ -26,8 +26,8 @@ by_kind P asked row f x y at_row at_kind same = (
 -- ---- the form of references: only the form of a resource-list depends on what an element
 -- contains
 
-pub attrs_decide_form : (kind : ElementKind) (ats : List Attr) (content : Content) → (kind ≡ ResourceList → ⊥) → is_formed kind ats content ≡ are_attrs_formed kind ats
-unfolding is_formed are_attrs_formed
+pub attrs_decide_form : (kind : ElementKind) (ats : List Attr) (content : Content) → (kind ≡ ResourceList → ⊥) → are_references_formed kind ats content ≡ are_attrs_formed kind ats
+unfolding are_references_formed are_attrs_formed
 attrs_decide_form ResourceList ats content other = absurd (other refl)
 attrs_decide_form ResourceLists ats content other = refl
 attrs_decide_form EntryList ats content other = refl

@@ -1,6 +1,6 @@
 -- Definitions for private functions and proofs. No clause of a public call needs them.
-pub mod CheckedChanges
-pub mod ChildChanges
+pub mod ChangeResults
+pub mod ChildChangeResults
 pub mod LongestMatches
 pub mod Neighbours
-pub mod Parents
+pub mod ParentPaths

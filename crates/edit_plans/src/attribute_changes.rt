@@ -5,11 +5,11 @@ ghost use Rattle.xml_tree.specs.Tree.{at, height};
 ghost use Rattle.node_select.specs.Selection.{SelectsPath};
 ghost use Rattle.node_select.specs.declared.selector.End.TheVariants as ends;
 ghost use Rattle.usage_docs.specs.Validation.{HasFirstFault};
-ghost use Rattle.edit_rules.specs.Tags.{tag_with, with_attrs};
-ghost use Rattle.edit_plans.specs.inner.CheckedChanges.{IsRetaggedAt};
+ghost use Rattle.edit_rules.specs.StartTags.{start_tag_with, with_attrs};
+ghost use Rattle.edit_plans.specs.inner.ChangeResults.{IsNewTagResultAt};
 
 use crate::child_attributes::AttributeEdit;
-use crate::child_changes::{ChildChange, answer};
+use crate::child_changes::{ChildChange, answer_child_change};
 use crate::root_changes::root_attribute_change;
 use doc_names::Usage;
 use edit_rules::EditRefusal;
@@ -32,12 +32,12 @@ pub(crate) fn plan_attribute_change(
 ) -> Result<usize, EditRefusal>
     requires height_bounded { height root.now ≤ MAX_LEVELS }
     requires place_exists { at path.now root.now ≡ Some element.now }
-    requires tag { tag.now ≡ tag_with tag.now.attrs element.now }
+    requires tag { tag.now ≡ start_tag_with tag.now.attrs element.now }
     requires selector_end { selector.now.end
         ≡ ends.Attribute sought.now.uri.now sought.now.local.now }
     requires selected { SelectsPath selector.now.steps root.now path.now }
     requires faultless { HasFirstFault usage root.now None }
-    ensures new_tag_plan { IsRetaggedAt
+    ensures new_tag_plan { IsNewTagResultAt
         (record { usage = usage; document = root.now; selector = selector.now }) path.now
         (with_attrs tag.now.attrs element.now) sought.now result }
 {
@@ -48,5 +48,5 @@ pub(crate) fn plan_attribute_change(
         return root_attribute_change(alloc, usage, step, tag, sought);
     };
     let asked = ChildChange::SetAttributes(child, tag, sought);
-    answer(alloc, usage, root, step, &place, &asked)
+    answer_child_change(alloc, usage, root, step, &place, &asked)
 }

@@ -4,18 +4,19 @@ ghost use Rattle.std.specs.Prelude.{◌≡◌, ◌↔◌, Some, IsTrue, option_m
 ghost use Rattle.xml_tree.specs.TreeScopes.{inside};
 ghost use Rattle.std.specs.List.{find};
 ghost use Rattle.std.specs.Option.{option_copied};
-ghost use Rattle.node_select.specs.Selection.{is_attr};
-ghost use Rattle.edit_rules.specs.Tags.{AttrsFormed, AttrsPass, are_attrs_formed};
-ghost use Rattle.edit_plans.specs.inner.ChildChanges.{HasRoom, IsFoundIn, IsRetaggedIn, IsSelected};
-ghost use Rattle.edit_plans.specs.inner.ChildChanges.{not_found_refusal};
+ghost use Rattle.node_select.specs.Selection.{is_attr_named};
+ghost use Rattle.edit_rules.specs.StartTags.{HasFormedAttrs, AreAttrsAllowed, are_attrs_formed};
+ghost use Rattle.edit_plans.specs.inner.ChildChangeResults.{FitsWithinLevels, IsFoundInTag};
+ghost use Rattle.edit_plans.specs.inner.ChildChangeResults.{IsNewTagResult, IsSelectedChild};
+ghost use Rattle.edit_plans.specs.inner.ChildChangeResults.{not_found_refusal};
 
 use crate::insert_child::check_insertion;
 use crate::siblings::Siblings;
 use edit_rules::EditRefusal;
-use node_select::{Step, attr_in};
+use node_select::{Step, find_attr_in};
 use std::alloc::Global;
-use usage_docs::{ElementKind, Fault, attrs_pass, is_formed, kind_of};
-use xml_names::{Text, declared_in};
+use usage_docs::{ElementKind, Fault, are_attrs_allowed, are_references_formed, kind_of};
+use xml_names::{Text, index_decls};
 use xml_tree::{Element, LinkedScope, Path};
 
 /// An attribute that a selector names, and how it is to be found afterwards: with this value, or
@@ -51,12 +52,12 @@ fn value_of<'a>(
 ) -> Option<&'a Text>
     ensures exact { option_copied result
         ≡ option_map (λ a. a.value)
-        (find (is_attr (inside scope.now tag.now) sought.now.uri.now sought.now.local.now)
+        (find (is_attr_named (inside scope.now tag.now) sought.now.uri.now sought.now.local.now)
         tag.now.attrs) }
 {
-    let declared = declared_in(alloc, tag.decls());
+    let declared = index_decls(alloc, tag.decls());
     let inside = (&*scope).inside(&declared);
-    match attr_in(
+    match find_attr_in(
         &inside,
         tag.attrs(),
         sought.uri.as_str(),
@@ -89,9 +90,9 @@ pub(crate) fn is_found_in(
     tag: &Element,
     sought: &AttributeEdit<'_>,
 ) -> bool
-    ensures exact { IsTrue result ↔ IsFoundIn scope.now step.now tag.now sought.now }
+    ensures exact { IsTrue result ↔ IsFoundInTag scope.now step.now tag.now sought.now }
 {
-    if !step.tests(alloc, scope, tag) {
+    if !step.matches_test(alloc, scope, tag) {
         return is_wanted(None, sought.value);
     }
     let value = value_of(alloc, scope, tag, sought);
@@ -110,22 +111,22 @@ pub(crate) fn not_found_refusal(wanted: Option<&Text>) -> EditRefusal
 
 // Whether the attributes are valid for the child's element kind, if its parent has a kind and it
 // has one.
-fn attrs_pass_in(
+fn are_attrs_allowed_in(
     alloc: Global,
     row: Option<ElementKind>,
     scope: &LinkedScope<'_>,
     tag: &Element,
 ) -> bool
-    ensures exact { IsTrue result ↔ AttrsPass row scope.now tag.now }
+    ensures exact { IsTrue result ↔ AreAttrsAllowed row scope.now tag.now }
 {
     let Some(row) = row else {
         return true;
     };
-    let declared = declared_in(alloc, tag.decls());
+    let declared = index_decls(alloc, tag.decls());
     let inside = (&*scope).inside(&declared);
     match kind_of(row, &inside, tag.name()) {
         None => true,
-        Some(kind) => attrs_pass(kind, &inside, tag.attrs()),
+        Some(kind) => are_attrs_allowed(kind, &inside, tag.attrs()),
     }
 }
 
@@ -135,7 +136,7 @@ fn are_attrs_formed(kind: ElementKind, tag: &Element) -> bool
 {
     match kind {
         ElementKind::ResourceList => true,
-        _ => is_formed(kind, tag),
+        _ => are_references_formed(kind, tag),
     }
 }
 
@@ -146,12 +147,12 @@ fn attrs_formed_in(
     scope: &LinkedScope<'_>,
     tag: &Element,
 ) -> bool
-    ensures exact { IsTrue result ↔ AttrsFormed row scope.now tag.now }
+    ensures exact { IsTrue result ↔ HasFormedAttrs row scope.now tag.now }
 {
     let Some(row) = row else {
         return true;
     };
-    let declared = declared_in(alloc, tag.decls());
+    let declared = index_decls(alloc, tag.decls());
     let inside = (&*scope).inside(&declared);
     match kind_of(row, &inside, tag.name()) {
         None => true,
@@ -173,18 +174,18 @@ pub(crate) fn attribute_change_in_parent(
     tag: &Element,
     sought: &AttributeEdit<'_>,
 ) -> Result<usize, EditRefusal>
-    requires selected { IsSelected
+    requires selected { IsSelectedChild
         (record { kind = row; scope = scope.now; step = step.now; element = parent.now })
         child }
-    requires room_left { HasRoom place.now tag.now }
-    ensures new_tag_plan { IsRetaggedIn
+    requires room_left { FitsWithinLevels place.now tag.now }
+    ensures new_tag_plan { IsNewTagResult
         (record { kind = row; scope = scope.now; step = step.now; element = parent.now })
         (record { child = child; tag = tag.now; sought = sought.now }) place.now result }
 {
     if !is_found_in(alloc, scope, step, tag, sought) {
         return Err(not_found_refusal(sought.value));
     }
-    if !attrs_pass_in(alloc, row, scope, tag) {
+    if !are_attrs_allowed_in(alloc, row, scope, tag) {
         return Err(EditRefusal::Faulty(Fault::Invalid));
     }
     let formed = attrs_formed_in(alloc, row, scope, tag);

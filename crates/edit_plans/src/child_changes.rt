@@ -2,8 +2,8 @@
 ghost use Rattle.std.specs.Prelude.{◌≡◌, ◌∷◌, [], Some, IsSome, option_and_then};
 ghost use Rattle.xml_tree.specs.Tree.{at};
 ghost use Rattle.usage_docs.specs.SchemaTable.{kind_of, root_kind};
-ghost use Rattle.edit_plans.specs.inner.ChildChanges.{Answers, MayAsk};
-ghost use Rattle.edit_plans.specs.inner.Parents.{Below};
+ghost use Rattle.edit_plans.specs.inner.ChildChangeResults.{IsChildChangeResult, MayChangeChild};
+ghost use Rattle.edit_plans.specs.inner.ParentPaths.{HoldsAtParent};
 
 use crate::child_attributes::{AttributeEdit, attribute_change_in_parent};
 use crate::insert_child::insertion_in_parent;
@@ -14,7 +14,7 @@ use edit_rules::EditRefusal;
 use node_select::Step;
 use std::alloc::Global;
 use usage_docs::{ElementKind, kind_of, root_kind};
-use xml_names::{Name, declared_in};
+use xml_names::{Name, index_decls};
 use xml_tree::{Element, LinkedScope, Path};
 
 /// A change among the children of a parent.
@@ -31,7 +31,7 @@ pub(crate) enum ChildChange<'a> {
 }
 
 // The result at a parent at this path: an insertion point, or the number of the child.
-fn answer_in(
+fn answer_at_parent(
     alloc: Global,
     row: Option<ElementKind>,
     scope: &LinkedScope<'_>,
@@ -40,10 +40,10 @@ fn answer_in(
     place: &Path,
     asked: &ChildChange<'_>,
 ) -> Result<usize, EditRefusal>
-    requires change_asked { MayAsk
+    requires change_asked { MayChangeChild
         (record { kind = row; scope = scope.now; step = step.now; element = parent.now })
         place.now asked.now }
-    ensures request_answer { Answers
+    ensures request_answer { IsChildChangeResult
         (record { kind = row; scope = scope.now; step = step.now; element = parent.now })
         place.now asked.now result }
 {
@@ -62,7 +62,7 @@ fn answer_in(
 }
 
 // The element kind of a child, where its parent has one, in the scope at the child.
-fn row_inside(
+fn kind_inside(
     row: Option<ElementKind>,
     inside: &LinkedScope<'_>,
     name: &Name,
@@ -88,25 +88,25 @@ fn answer_below(
     asked: &ChildChange<'_>,
 ) -> Result<usize, EditRefusal>
     requires place_exists { IsSome (at way.now element.now) }
-    requires change_asked { Below
-        (λ r c parent. MayAsk
+    requires change_asked { HoldsAtParent
+        (λ r c parent. MayChangeChild
         (record { kind = r; scope = c; step = step.now; element = parent }) place.now asked.now)
         row scope.now element.now way.now }
-    ensures answers_below { Below
-        (λ r c parent. Answers
+    ensures answers_below { HoldsAtParent
+        (λ r c parent. IsChildChangeResult
         (record { kind = r; scope = c; step = step.now; element = parent }) place.now asked.now
         result)
         row scope.now element.now way.now }
 {
     let [number, way @ ..] = way else {
-        return answer_in(alloc, row, scope, step, element, place, asked);
+        return answer_at_parent(alloc, row, scope, step, element, place, asked);
     };
     match element.child_element(*number) {
         None => unreachable!(),
         Some(child_element) => {
-            let declared = declared_in(alloc, child_element.decls());
+            let declared = index_decls(alloc, child_element.decls());
             let inside = (&*scope).inside(&declared);
-            let row = row_inside(row, &inside, child_element.name());
+            let row = kind_inside(row, &inside, child_element.name());
             answer_below(alloc, row, &inside, step, child_element, way, place, asked)
         }
     }
@@ -115,7 +115,7 @@ fn answer_below(
 /// The result of a change among the children of the element at a path, in which the step is to
 /// select: an insertion point or the number of the child, or why there is no change. Only the
 /// elements on the path and their children are looked at.
-pub(crate) fn answer(
+pub(crate) fn answer_child_change(
     alloc: Global,
     usage: Usage,
     root: &Element,
@@ -124,17 +124,17 @@ pub(crate) fn answer(
     asked: &ChildChange<'_>,
 ) -> Result<usize, EditRefusal>
     requires place_exists { IsSome (at place.now root.now) }
-    requires change_asked { Below
-        (λ r c parent. MayAsk
+    requires change_asked { HoldsAtParent
+        (λ r c parent. MayChangeChild
         (record { kind = r; scope = c; step = step.now; element = parent }) place.now asked.now)
         (Some (root_kind usage)) (root.now.decls ∷ []) root.now place.now }
-    ensures answer_at_place { Below
-        (λ r c parent. Answers
+    ensures answer_at_place { HoldsAtParent
+        (λ r c parent. IsChildChangeResult
         (record { kind = r; scope = c; step = step.now; element = parent }) place.now asked.now
         result)
         (Some (root_kind usage)) (root.now.decls ∷ []) root.now place.now }
 {
-    let declared = declared_in(alloc, root.decls());
+    let declared = index_decls(alloc, root.decls());
     answer_below(
         alloc,
         Some(root_kind(usage)),

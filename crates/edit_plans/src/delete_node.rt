@@ -8,12 +8,12 @@ ghost use Rattle.node_select.specs.declared.selector.End.TheVariants as ends;
 ghost use Rattle.usage_docs.specs.Validation.{HasFirstFault};
 ghost use Rattle.edit_ops.specs.declared.change.Change.TheVariants.{DropAttr, Remove};
 ghost use Rattle.edit_rules.specs.Deletions.{IsDeletePlan};
-ghost use Rattle.edit_rules.specs.Tags.{tag_with};
-ghost use Rattle.edit_plans.specs.inner.CheckedChanges.{allowed_change};
+ghost use Rattle.edit_rules.specs.StartTags.{start_tag_with};
+ghost use Rattle.edit_plans.specs.inner.ChangeResults.{allowed_change};
 
 use crate::attribute_changes::plan_attribute_change;
 use crate::child_attributes::AttributeEdit;
-use crate::child_changes::{ChildChange, answer};
+use crate::child_changes::{ChildChange, answer_child_change};
 use crate::put_element::allowed_change;
 use doc_names::Usage;
 use edit_ops::{Change, without_children};
@@ -45,7 +45,7 @@ fn attribute_removal(
 // The start tag of an element without an attribute.
 fn tag_without(alloc: Global, element: &Element, name: &Name) -> Result<Element, NoMemory>
     ensures ok { IfOk result
-        (λ tag. tag ≡ tag_with (without_attr name.now element.now.attrs) element.now) }
+        (λ tag. tag ≡ start_tag_with (without_attr name.now element.now.attrs) element.now) }
 {
     let mut tag = without_children(alloc, element)?;
     tag.drop_attr(name);
@@ -71,7 +71,7 @@ fn plan_removal(
     let [.., step] = selector.steps.as_slice() else {
         unreachable!()
     };
-    let found = answer(
+    let found = answer_child_change(
         alloc,
         usage,
         root,

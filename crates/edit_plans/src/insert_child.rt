@@ -2,8 +2,9 @@
 //! section 8.2.3).
 ghost use Rattle.std.specs.Prelude.{◌↔◌, ◌≤◌, IsTrue, length};
 ghost use Rattle.xml_tree.specs.Tree.{child_elements_of};
-ghost use Rattle.edit_plans.specs.inner.ChildChanges.{FormedIn, HasRoom, IsJudgedIn, IsPlacedIn};
-ghost use Rattle.edit_plans.specs.inner.ChildChanges.{NoClash, others};
+ghost use Rattle.edit_plans.specs.inner.ChildChangeResults.{HasFormedReferences, FitsWithinLevels};
+ghost use Rattle.edit_plans.specs.inner.ChildChangeResults.{IsNewChildResult, IsInsertionResult};
+ghost use Rattle.edit_plans.specs.inner.ChildChangeResults.{HasNoClash, siblings_without};
 
 use crate::insertion_points::{NoInsertionPoint, choose_gap};
 use crate::siblings::{Siblings, first_clash_beside};
@@ -20,7 +21,7 @@ fn is_formed_in(
     scope: &LinkedScope<'_>,
     new: &Element,
 ) -> bool
-    ensures exact { IsTrue result ↔ FormedIn row scope.now new.now }
+    ensures exact { IsTrue result ↔ HasFormedReferences row scope.now new.now }
 {
     match row {
         None => true,
@@ -41,15 +42,16 @@ pub(crate) fn check_insertion(
     gap: usize,
     formed: bool,
 ) -> Result<usize, EditRefusal>
-    requires room_left { HasRoom place.now new.now }
+    requires room_left { FitsWithinLevels place.now new.now }
     requires gap_in_range { gap ≤ length
-        (others siblings.now.left_out (child_elements_of siblings.now.parent.now)) }
-    requires no_clash { NoClash row scope.now siblings.now.parent.now }
-    ensures judged_by_form { IsJudgedIn (IsTrue formed)
+        (siblings_without siblings.now.left_out (child_elements_of siblings.now.parent.now)) }
+    requires no_clash { HasNoClash row scope.now siblings.now.parent.now }
+    ensures judged_by_form { IsNewChildResult (IsTrue formed)
         (record {
           kind = row;
           scope = scope.now;
-          elements = others siblings.now.left_out (child_elements_of siblings.now.parent.now);
+          elements =
+              siblings_without siblings.now.left_out (child_elements_of siblings.now.parent.now);
           path = place.now;
         })
         new.now gap result }
@@ -76,15 +78,16 @@ pub(crate) fn check_new_child(
     new: &Element,
     gap: usize,
 ) -> Result<usize, EditRefusal>
-    requires room_left { HasRoom place.now new.now }
+    requires room_left { FitsWithinLevels place.now new.now }
     requires gap_in_range { gap ≤ length
-        (others siblings.now.left_out (child_elements_of siblings.now.parent.now)) }
-    requires no_clash { NoClash row scope.now siblings.now.parent.now }
-    ensures judged_by_rules { IsJudgedIn (FormedIn row scope.now new.now)
+        (siblings_without siblings.now.left_out (child_elements_of siblings.now.parent.now)) }
+    requires no_clash { HasNoClash row scope.now siblings.now.parent.now }
+    ensures judged_by_rules { IsNewChildResult (HasFormedReferences row scope.now new.now)
         (record {
           kind = row;
           scope = scope.now;
-          elements = others siblings.now.left_out (child_elements_of siblings.now.parent.now);
+          elements =
+              siblings_without siblings.now.left_out (child_elements_of siblings.now.parent.now);
           path = place.now;
         })
         new.now gap result }
@@ -105,9 +108,9 @@ pub(crate) fn insertion_in_parent(
     place: &Path,
     new: &Element,
 ) -> Result<usize, EditRefusal>
-    requires room_left { HasRoom place.now new.now }
-    requires no_clash { NoClash row scope.now parent.now }
-    ensures insertion_plan { IsPlacedIn
+    requires room_left { FitsWithinLevels place.now new.now }
+    requires no_clash { HasNoClash row scope.now parent.now }
+    ensures insertion_plan { IsInsertionResult
         (record { kind = row; scope = scope.now; step = step.now; element = parent.now })
         new.now place.now result }
 {

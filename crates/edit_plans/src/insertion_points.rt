@@ -4,19 +4,20 @@
 ghost use Rattle.std.specs.Prelude.{◌≡◌, ◌↔◌, ◌<◌, ◌+◌, ◌^◌, ℕ, IsTrue, None, cond, length};
 ghost use Rattle.std.specs.Option.{ForSome};
 ghost use Rattle.node_select.specs.StepSelection.{Matches};
-ghost use Rattle.node_select.specs.InsertionPoints.{IsFree, IsLawfulInsertion, IsInsertionPlan};
-ghost use Rattle.node_select.specs.InsertionPoints.{plan_with};
+ghost use Rattle.node_select.specs.InsertionPoints.{AllowsInsertion, IsLawfulInsertion};
+ghost use Rattle.node_select.specs.InsertionPoints.{IsInsertionPlan};
+ghost use Rattle.node_select.specs.InsertionPoints.{plan_with_gap};
 ghost use Rattle.xml_tree.specs.Tree.{child_elements_of};
 ghost use Rattle.node_select.specs.Selection.{is_named, is_tested};
-ghost use Rattle.usage_docs.specs.Validity.{ValidChild};
-ghost use Rattle.edit_plans.specs.inner.Neighbours.{FitsIn, fits_between, part_in};
+ghost use Rattle.usage_docs.specs.Validity.{IsValidChild};
+ghost use Rattle.edit_plans.specs.inner.Neighbours.{FitsInsertionPoint, fits_between, part_in};
 ghost use Rattle.edit_plans.specs.declared.insertion_points.NoInsertionPoint.TheVariants.{Unlawful};
 ghost use Rattle.edit_plans.specs.declared.insertion_points.NoInsertionPoint.TheVariants.{Invalid};
 
-use crate::remove_child::part_left;
+use crate::remove_child::part_before_child;
 use node_select::{Step, is_at_position};
 use std::alloc::Global;
-use usage_docs::{END, ElementKind, follows, is_valid_child, part_of};
+use usage_docs::{END, ElementKind, is_valid_child, may_follow, part_of};
 use xml_names::IndexedDecls;
 use xml_tree::{Element, LinkedScope, Node};
 
@@ -30,13 +31,13 @@ pub(crate) enum NoInsertionPoint {
 }
 
 // The result after one more insertion point.
-fn with_gap(
+fn gap_or_refusal(
     answer: Result<usize, NoInsertionPoint>,
     gap: usize,
     lawful: bool,
     valid: bool,
 ) -> Result<usize, NoInsertionPoint>
-    ensures exact { result ≡ plan_with Invalid answer gap lawful valid }
+    ensures exact { result ≡ plan_with_gap Invalid answer gap lawful valid }
 {
     if !lawful {
         return answer;
@@ -69,12 +70,18 @@ pub(crate) fn part_in(
 }
 
 /// Whether a child of this part may be between two others.
-pub(crate) fn fits(row: Option<ElementKind>, itself: bool, before: u8, part: u8, after: u8) -> bool
+pub(crate) fn may_stand_between(
+    row: Option<ElementKind>,
+    itself: bool,
+    before: u8,
+    part: u8,
+    after: u8,
+) -> bool
     ensures exact { result ≡ fits_between row itself before part after }
 {
     match row {
         None => true,
-        Some(row) => itself && (follows(row, before, part) && follows(row, part, after)),
+        Some(row) => itself && (may_follow(row, before, part) && may_follow(row, part, after)),
     }
 }
 
@@ -85,7 +92,7 @@ pub(crate) fn is_valid_in(
     scope: &LinkedScope<'_>,
     new: &Element,
 ) -> bool
-    ensures valid_iff { ForSome row (λ kind. IsTrue result ↔ ValidChild kind scope.now new.now) }
+    ensures valid_iff { ForSome row (λ kind. IsTrue result ↔ IsValidChild kind scope.now new.now) }
 {
     match row {
         None => true,
@@ -95,7 +102,7 @@ pub(crate) fn is_valid_in(
 
 /// Whether a child passes both tests of a step. The attribute test comes first, since fewer
 /// children pass it.
-pub(crate) fn passes(
+pub(crate) fn passes_step(
     alloc: Global,
     scope: &LinkedScope<'_>,
     step: &Step,
@@ -105,11 +112,11 @@ pub(crate) fn passes(
         ↔ (IsTrue (is_named scope.now step.now child_element.now)
         × IsTrue (is_tested scope.now step.now child_element.now)) }
 {
-    step.tests(alloc, scope, child_element) && step.names(alloc, scope, child_element)
+    step.matches_test(alloc, scope, child_element) && step.matches_name(alloc, scope, child_element)
 }
 
 // Counts one more where `more` is set.
-fn count(before: u64, more: bool) -> u64
+fn count_if(before: u64, more: bool) -> u64
     requires { before + 1 < 2 ^ 64 }
     ensures counts_one_more { result ≡ before + cond more 1 0 }
 {
@@ -125,7 +132,7 @@ fn any_passes(alloc: Global, scope: &LinkedScope<'_>, step: &Step, parent: &Elem
     let mut i: usize = 0;
     for node in parent.nodes() {
         if let Node::Elem(child_element) = node {
-            if passes(alloc, scope, step, child_element) {
+            if passes_step(alloc, scope, step, child_element) {
                 return true;
             }
             i += 1;
@@ -136,9 +143,10 @@ fn any_passes(alloc: Global, scope: &LinkedScope<'_>, step: &Step, parent: &Elem
 
 // Whether no other child keeps the new one from being selected: the step has a position, or no
 // child passes both tests.
-fn is_free(alloc: Global, scope: &LinkedScope<'_>, step: &Step, parent: &Element) -> bool
+fn can_be_selected(alloc: Global, scope: &LinkedScope<'_>, step: &Step, parent: &Element) -> bool
     ensures exact { IsTrue result
-        ↔ IsFree (is_named scope.now step.now) (is_tested scope.now step.now) step.now.position
+        ↔ AllowsInsertion (is_named scope.now step.now)
+        (is_tested scope.now step.now) step.now.position
         (child_elements_of parent.now) }
 {
     match step.position {
@@ -161,7 +169,7 @@ fn count_children(parent: &Element) -> usize
 }
 
 // Whether a new child may come after all `many` children.
-fn fits_last(
+fn fits_after_last(
     alloc: Global,
     row: Option<ElementKind>,
     scope: &LinkedScope<'_>,
@@ -172,16 +180,17 @@ fn fits_last(
 ) -> bool
     requires children_counted { many ≡ length (child_elements_of parent.now) }
     requires itself_valid { ForSome row
-        (λ kind. IsTrue itself ↔ ValidChild kind scope.now new.now) }
-    ensures exact { IsTrue result ↔ FitsIn row scope.now parent.now.content new.now many }
+        (λ kind. IsTrue itself ↔ IsValidChild kind scope.now new.now) }
+    ensures exact { IsTrue result ↔ FitsInsertionPoint row scope.now parent.now.content new.now
+        many }
 {
     let part = part_in(alloc, row, scope, new);
-    let left = part_left(alloc, row, scope, parent, many);
-    fits(row, itself, left, part, END)
+    let left = part_before_child(alloc, row, scope, parent, many);
+    may_stand_between(row, itself, left, part, END)
 }
 
 // Whether a step has no position, and the new child may come after all children.
-fn takes_last(
+fn takes_last_gap(
     alloc: Global,
     row: Option<ElementKind>,
     scope: &LinkedScope<'_>,
@@ -193,12 +202,12 @@ fn takes_last(
 ) -> bool
     requires children_counted { many ≡ length (child_elements_of parent.now) }
     requires itself_valid { ForSome row
-        (λ kind. IsTrue itself ↔ ValidChild kind scope.now new.now) }
+        (λ kind. IsTrue itself ↔ IsValidChild kind scope.now new.now) }
     ensures fits_any_order { IsTrue result → (step.now.position ≡ None)
-        × FitsIn row scope.now parent.now.content new.now many }
+        × FitsInsertionPoint row scope.now parent.now.content new.now many }
 {
     match step.position {
-        None => fits_last(alloc, row, scope, parent, new, itself, many),
+        None => fits_after_last(alloc, row, scope, parent, new, itself, many),
         Some(_) => false,
     }
 }
@@ -216,18 +225,18 @@ fn greatest_gap(
 ) -> Result<usize, NoInsertionPoint>
     requires name_matches { IsTrue (is_named scope.now step.now new.now) }
     requires test_matches { IsTrue (is_tested scope.now step.now new.now) }
-    requires position_free { IsFree (is_named scope.now step.now)
+    requires position_free { AllowsInsertion (is_named scope.now step.now)
         (is_tested scope.now step.now) step.now.position (child_elements_of parent.now) }
     requires itself_valid { ForSome row
-        (λ kind. IsTrue itself ↔ ValidChild kind scope.now new.now) }
+        (λ kind. IsTrue itself ↔ IsValidChild kind scope.now new.now) }
     ensures lawful_plan { IsInsertionPlan Unlawful Invalid
         (IsLawfulInsertion (is_named scope.now step.now)
         (is_tested scope.now step.now) step.now.position (child_elements_of parent.now) new.now)
-        (FitsIn row scope.now parent.now.content new.now)
+        (FitsInsertionPoint row scope.now parent.now.content new.now)
         (length (child_elements_of parent.now) + 1) result }
 {
     let many = count_children(parent);
-    if takes_last(alloc, row, scope, step, parent, new, itself, many) {
+    if takes_last_gap(alloc, row, scope, step, parent, new, itself, many) {
         return Ok(many);
     }
     last_gap(alloc, row, scope, step, parent, new, itself)
@@ -245,14 +254,14 @@ fn last_gap(
 ) -> Result<usize, NoInsertionPoint>
     requires name_matches { IsTrue (is_named scope.now step.now new.now) }
     requires test_matches { IsTrue (is_tested scope.now step.now new.now) }
-    requires position_free { IsFree (is_named scope.now step.now)
+    requires position_free { AllowsInsertion (is_named scope.now step.now)
         (is_tested scope.now step.now) step.now.position (child_elements_of parent.now) }
     requires itself_valid { ForSome row
-        (λ kind. IsTrue itself ↔ ValidChild kind scope.now new.now) }
+        (λ kind. IsTrue itself ↔ IsValidChild kind scope.now new.now) }
     ensures lawful_plan { IsInsertionPlan Unlawful Invalid
         (IsLawfulInsertion (is_named scope.now step.now)
         (is_tested scope.now step.now) step.now.position (child_elements_of parent.now) new.now)
-        (FitsIn row scope.now parent.now.content new.now)
+        (FitsInsertionPoint row scope.now parent.now.content new.now)
         (length (child_elements_of parent.now) + 1) result }
 {
     let part = part_in(alloc, row, scope, new);
@@ -264,16 +273,16 @@ fn last_gap(
         if let Node::Elem(child_element) = node {
             let next = part_in(alloc, row, scope, child_element);
             let lawful = is_at_position(step.position, before);
-            let valid = fits(row, itself, prev, part, next);
-            answer = with_gap(answer, i, lawful, valid);
-            before = count(before, step.names(alloc, scope, child_element));
+            let valid = may_stand_between(row, itself, prev, part, next);
+            answer = gap_or_refusal(answer, i, lawful, valid);
+            before = count_if(before, step.matches_name(alloc, scope, child_element));
             prev = next;
             i += 1;
         }
     }
     let lawful = is_at_position(step.position, before);
-    let valid = fits(row, itself, prev, part, END);
-    with_gap(answer, i, lawful, valid)
+    let valid = may_stand_between(row, itself, prev, part, END);
+    gap_or_refusal(answer, i, lawful, valid)
 }
 
 /// The last insertion point of an element, in the scope inside it and by its element kind, if it
@@ -289,16 +298,16 @@ pub(crate) fn choose_gap(
     ensures lawful_plan { IsInsertionPlan Unlawful Invalid
         (IsLawfulInsertion (is_named scope.now step.now)
         (is_tested scope.now step.now) step.now.position (child_elements_of parent.now) new.now)
-        (FitsIn row scope.now parent.now.content new.now)
+        (FitsInsertionPoint row scope.now parent.now.content new.now)
         (length (child_elements_of parent.now) + 1) result }
 {
-    if !step.names(alloc, scope, new) {
+    if !step.matches_name(alloc, scope, new) {
         return Err(NoInsertionPoint::Unlawful);
     }
-    if !step.tests(alloc, scope, new) {
+    if !step.matches_test(alloc, scope, new) {
         return Err(NoInsertionPoint::Unlawful);
     }
-    if !is_free(alloc, scope, step, parent) {
+    if !can_be_selected(alloc, scope, step, parent) {
         return Err(NoInsertionPoint::Unlawful);
     }
     let itself = is_valid_in(alloc, row, scope, new);

@@ -8,15 +8,15 @@ ghost use Rattle.xml_names.specs.Attributes.{with_attr};
 ghost use Rattle.xml_tree.specs.Tree.{height};
 ghost use Rattle.xml_names.specs.Scopes.{xml_uri};
 ghost use Rattle.node_select.specs.Selection.{SelectsPath};
-ghost use Rattle.edit_rules.specs.Attributes.{IsAttrPlan, IsValuePlan, is_binding, new_name};
-ghost use Rattle.edit_rules.specs.Attributes.{new_prefix, written_name};
+ghost use Rattle.edit_rules.specs.AttributePuts.{IsAttrPlan, IsValuePlan, is_binding, new_name};
+ghost use Rattle.edit_rules.specs.AttributePuts.{new_prefix, written_name};
 ghost use Rattle.edit_rules.specs.Spots.{IsSpotOf};
-ghost use Rattle.edit_rules.specs.Tags.{tag_with};
+ghost use Rattle.edit_rules.specs.StartTags.{start_tag_with};
 ghost use Rattle.edit_rules.specs.declared.spot.Spot.TheVariants.{Value};
 ghost use Rattle.node_select.specs.declared.selector.End.TheVariants as ends;
 ghost use Rattle.usage_docs.specs.Validation.{HasFirstFault};
 ghost use Rattle.edit_ops.specs.declared.change.Change.TheVariants.{SetAttr};
-ghost use Rattle.edit_plans.specs.inner.CheckedChanges.{allowed_change};
+ghost use Rattle.edit_plans.specs.inner.ChangeResults.{allowed_change};
 
 use crate::attribute_changes::plan_attribute_change;
 use crate::child_attributes::AttributeEdit;
@@ -132,14 +132,14 @@ fn attribute_write(
 }
 
 // The start tag of an element with an attribute written.
-fn tag_written(
+fn tag_with_attribute(
     alloc: Global,
     element: &Element,
     name: &Name,
     value: &Text,
 ) -> Result<Element, NoMemory>
     ensures ok { IfOk result
-        (λ tag. tag ≡ tag_with (with_attr name.now value.now element.now.attrs) element.now) }
+        (λ tag. tag ≡ start_tag_with (with_attr name.now value.now element.now.attrs) element.now) }
 {
     let mut tag = without_children(alloc, element)?;
     let name = name.copy(alloc)?;
@@ -176,7 +176,7 @@ fn plan_value(
     let Some(name) = written_name(alloc, &scope, element, uri, local)? else {
         return Ok(Err(EditRefusal::CannotInsert));
     };
-    let tag = tag_written(alloc, element, &name, &value)?;
+    let tag = tag_with_attribute(alloc, element, &name, &value)?;
     let sought = AttributeEdit::with_value(uri, local, &value);
     let found = plan_attribute_change(alloc, usage, root, selector, path, element, &tag, &sought);
     Ok(attribute_write(path, name, value, found))

@@ -7,11 +7,12 @@ ghost use Rattle.node_select.specs.Selection.{SelectsPath};
 ghost use Rattle.node_select.specs.declared.selector.End.TheVariants as ends;
 ghost use Rattle.usage_docs.specs.Validation.{HasFirstFault};
 ghost use Rattle.edit_ops.specs.declared.change.Change.TheVariants.{Replace};
-ghost use Rattle.edit_rules.specs.Puts.{HasRoomAt, IsInsertion, IsPutPlan, IsReplacement};
+ghost use Rattle.edit_rules.specs.ElementPuts.{FitsWithinLevelsAt, IsElementInsertion, IsPutPlan};
+ghost use Rattle.edit_rules.specs.ElementPuts.{IsElementReplacement};
 ghost use Rattle.edit_rules.specs.Spots.{IsSpotOf, SelectsParent};
-ghost use Rattle.edit_plans.specs.inner.CheckedChanges.{element_insertion, allowed_change};
+ghost use Rattle.edit_plans.specs.inner.ChangeResults.{element_insertion, allowed_change};
 
-use crate::child_changes::{ChildChange, answer};
+use crate::child_changes::{ChildChange, answer_child_change};
 use crate::root_changes::root_replacement;
 use doc_names::Usage;
 use edit_ops::Change;
@@ -67,7 +68,7 @@ fn element_replacement(
 }
 
 // The plan for a new element under a parent, which all steps but the last select.
-fn plan_under(
+fn plan_insertion(
     alloc: Global,
     usage: Usage,
     root: &Element,
@@ -78,17 +79,17 @@ fn plan_under(
     requires selects_parent { SelectsParent steps.now root.now place.now }
     requires faultless { HasFirstFault usage root.now None }
     requires room_left { length place.now + suc (height element) ≤ MAX_LEVELS }
-    ensures plans_insertion { IsInsertion
+    ensures plans_insertion { IsElementInsertion
         (record { usage = usage; document = root.now; steps = steps.now }) place.now element
         result }
 {
     let [.., step] = steps else { unreachable!() };
-    let gap = answer(alloc, usage, root, step, place, &ChildChange::Put(&element));
+    let gap = answer_child_change(alloc, usage, root, step, place, &ChildChange::Put(&element));
     element_insertion(place, element, gap)
 }
 
 // The plan for a replacement of an element that the steps select.
-fn plan_over(
+fn plan_replacement(
     alloc: Global,
     usage: Usage,
     root: &Element,
@@ -99,7 +100,7 @@ fn plan_over(
     requires selected { SelectsPath steps.now root.now path.now }
     requires faultless { HasFirstFault usage root.now None }
     requires room_left { length path.now + height element ≤ MAX_LEVELS }
-    ensures plans_replacement { IsReplacement
+    ensures plans_replacement { IsElementReplacement
         (record { usage = usage; document = root.now; steps = steps.now }) path.now element
         result }
 {
@@ -109,7 +110,7 @@ fn plan_over(
     };
     let [.., step] = steps else { unreachable!() };
     let asked = ChildChange::Exchange(child, &element);
-    let found = answer(alloc, usage, root, step, &place, &asked);
+    let found = answer_child_change(alloc, usage, root, step, &place, &asked);
     element_replacement(path, element, found)
 }
 
@@ -134,15 +135,15 @@ pub fn plan_put(
     requires valid_spot { IsSpotOf root.now selector.now spot.now }
     requires selector_end { selector.now.end ≡ ends.Element }
     requires faultless { HasFirstFault usage root.now None }
-    requires room_left { HasRoomAt spot.now element }
+    requires room_left { FitsWithinLevelsAt spot.now element }
     ensures as_specified { IsPutPlan
         (record { usage = usage; document = root.now; steps = selector.now.steps }) spot.now
         element result }
 {
     let steps = selector.steps.as_slice();
     match spot {
-        Spot::Over(path) => plan_over(alloc, usage, root, steps, path, element),
-        Spot::Under(place) => plan_under(alloc, usage, root, steps, place, element),
+        Spot::Over(path) => plan_replacement(alloc, usage, root, steps, path, element),
+        Spot::Under(place) => plan_insertion(alloc, usage, root, steps, place, element),
         Spot::Beside => Err(EditRefusal::CannotInsert),
         Spot::Value(_) => unreachable!(),
     }

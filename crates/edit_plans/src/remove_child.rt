@@ -4,15 +4,15 @@ ghost use Rattle.std.specs.Option.{ForSome};
 ghost use Rattle.node_select.specs.Edits.{IsNextMatch};
 ghost use Rattle.xml_tree.specs.Tree.{child_elements_of};
 ghost use Rattle.node_select.specs.Selection.{SelectsChild, is_named, is_tested};
-ghost use Rattle.usage_docs.specs.readers.Gaps.{part_before, part_after};
-ghost use Rattle.edit_rules.specs.Removals.{ClosesUp, StillSelects};
-ghost use Rattle.edit_plans.specs.inner.ChildChanges.{IsRemovedIn, IsSelected};
+ghost use Rattle.usage_docs.specs.readers.NeighbourParts.{part_before, part_after};
+ghost use Rattle.edit_rules.specs.Removals.{NeighboursMayMeet, StillSelectsChild};
+ghost use Rattle.edit_plans.specs.inner.ChildChangeResults.{IsRemovalResult, IsSelectedChild};
 
 use crate::insertion_points::part_in;
 use edit_rules::EditRefusal;
 use node_select::Step;
 use std::alloc::Global;
-use usage_docs::{END, ElementKind, Fault, follows};
+use usage_docs::{END, ElementKind, Fault, may_follow};
 use xml_tree::{Element, LinkedScope, Node};
 
 // Whether the i-th child comes after another one and has the step's name.
@@ -30,7 +30,7 @@ fn is_next(
     if i <= child {
         return false;
     }
-    step.names(alloc, scope, child_element)
+    step.matches_name(alloc, scope, child_element)
 }
 
 // Whether the next child of the step's name after this one passes the attribute test too.
@@ -50,7 +50,7 @@ fn next_passes(
     for node in parent.nodes() {
         if let Node::Elem(child_element) = node {
             if is_next(alloc, scope, step, child, i, child_element) {
-                return step.tests(alloc, scope, child_element);
+                return step.matches_test(alloc, scope, child_element);
             }
             i += 1;
         }
@@ -59,7 +59,7 @@ fn next_passes(
 }
 
 // Whether the step still selects a child once the selected one is removed.
-fn still_selects(
+fn still_selects_child(
     alloc: Global,
     scope: &LinkedScope<'_>,
     step: &Step,
@@ -68,7 +68,7 @@ fn still_selects(
 ) -> bool
     requires { SelectsChild scope.now step.now (child_elements_of parent.now) child }
     ensures exact { IsTrue result
-        ↔ StillSelects scope.now step.now (child_elements_of parent.now) child }
+        ↔ StillSelectsChild scope.now step.now (child_elements_of parent.now) child }
 {
     match step.position {
         None => false,
@@ -78,7 +78,7 @@ fn still_selects(
 
 /// The part of the child before this one, or the beginning. The number may be one past the last
 /// child.
-pub(crate) fn part_left(
+pub(crate) fn part_before_child(
     alloc: Global,
     row: Option<ElementKind>,
     scope: &LinkedScope<'_>,
@@ -99,7 +99,7 @@ pub(crate) fn part_left(
 }
 
 /// The part of the child after this one, or the end.
-pub(crate) fn part_right(
+pub(crate) fn part_after_child(
     alloc: Global,
     row: Option<ElementKind>,
     scope: &LinkedScope<'_>,
@@ -122,7 +122,7 @@ pub(crate) fn part_right(
 }
 
 // Whether the next child may follow the one before this one.
-fn closes_up(
+fn neighbours_may_meet(
     alloc: Global,
     row: Option<ElementKind>,
     scope: &LinkedScope<'_>,
@@ -130,13 +130,13 @@ fn closes_up(
     child: usize,
 ) -> bool
     requires { child < length (child_elements_of parent.now) }
-    ensures exact { IsTrue result ↔ ClosesUp row scope.now parent.now.content child }
+    ensures exact { IsTrue result ↔ NeighboursMayMeet row scope.now parent.now.content child }
 {
-    let left = part_left(alloc, row, scope, parent, child);
-    let right = part_right(alloc, row, scope, parent, child);
+    let left = part_before_child(alloc, row, scope, parent, child);
+    let right = part_after_child(alloc, row, scope, parent, child);
     match row {
         None => true,
-        Some(kind) => follows(kind, left, right),
+        Some(kind) => may_follow(kind, left, right),
     }
 }
 
@@ -153,17 +153,17 @@ pub(crate) fn removal_in_parent(
     parent: &Element,
     child: usize,
 ) -> Result<usize, EditRefusal>
-    requires selected { IsSelected
+    requires selected { IsSelectedChild
         (record { kind = row; scope = scope.now; step = step.now; element = parent.now })
         child }
-    ensures removal_plan { IsRemovedIn
+    ensures removal_plan { IsRemovalResult
         (record { kind = row; scope = scope.now; step = step.now; element = parent.now })
         child result }
 {
-    if still_selects(alloc, scope, step, parent, child) {
+    if still_selects_child(alloc, scope, step, parent, child) {
         return Err(EditRefusal::CannotDelete);
     }
-    if !closes_up(alloc, row, scope, parent, child) {
+    if !neighbours_may_meet(alloc, row, scope, parent, child) {
         return Err(EditRefusal::Faulty(Fault::Invalid));
     }
     Ok(child)

@@ -4,19 +4,19 @@ ghost use Rattle.std.specs.Prelude.{◌≡◌, ◌≤◌, [], ◌∷◌, ℕ, Li
 ghost use Rattle.xml_names.specs.declared.limits.TheConstants.{MAX_LEVELS};
 ghost use Rattle.xml_tree.specs.Tree.{height};
 ghost use Rattle.node_select.specs.Selection.{SelectsPath};
-ghost use Rattle.usage_docs.specs.Keys.{attrs_pass};
+ghost use Rattle.usage_docs.specs.KeyAttributes.{are_attrs_allowed};
 ghost use Rattle.usage_docs.specs.SchemaTable.{root_kind};
-ghost use Rattle.edit_rules.specs.declared.refusal.EditRefusal.TheVariants.{CannotInsert};
-ghost use Rattle.edit_plans.specs.inner.ChildChanges.{IsRootRetagged};
-ghost use Rattle.edit_plans.specs.inner.CheckedChanges.{IsTestedAs};
+ghost use Rattle.edit_rules.specs.declared.edit_refusal.EditRefusal.TheVariants.{CannotInsert};
+ghost use Rattle.edit_plans.specs.inner.ChildChangeResults.{IsRootTagResult};
+ghost use Rattle.edit_plans.specs.inner.ChangeResults.{IsResultIfLawful};
 
 use crate::child_attributes::{AttributeEdit, is_found_in, not_found_refusal};
 use doc_names::Usage;
 use edit_rules::EditRefusal;
 use node_select::{Step, select_steps};
 use std::alloc::Global;
-use usage_docs::{Fault, attrs_pass, first_fault, root_kind};
-use xml_names::declared_in;
+use usage_docs::{Fault, are_attrs_allowed, first_fault, root_kind};
+use xml_names::index_decls;
 use xml_tree::{Element, LinkedScope};
 
 /// The result for another root, where the steps select the root and nothing below it:
@@ -29,7 +29,7 @@ pub(crate) fn root_replacement(
 ) -> Result<usize, EditRefusal>
     requires root_alone { (p : List ℕ) → SelectsPath steps.now new.now p → p ≡ [] }
     requires height_bounded { height new.now ≤ MAX_LEVELS }
-    ensures new_root_plan { IsTestedAs CannotInsert
+    ensures new_root_plan { IsResultIfLawful CannotInsert
         (SelectsPath steps.now new.now []) usage new.now result }
 {
     if select_steps(alloc, new, steps).is_none() {
@@ -42,11 +42,12 @@ pub(crate) fn root_replacement(
 }
 
 // Whether the attributes are valid for the root.
-fn attrs_pass_in_root(alloc: Global, usage: Usage, tag: &Element) -> bool
-    ensures exact { result ≡ attrs_pass (root_kind usage) (tag.now.decls ∷ []) tag.now.attrs }
+fn are_attrs_allowed_in_root(alloc: Global, usage: Usage, tag: &Element) -> bool
+    ensures exact { result
+        ≡ are_attrs_allowed (root_kind usage) (tag.now.decls ∷ []) tag.now.attrs }
 {
-    let declared = declared_in(alloc, tag.decls());
-    attrs_pass(
+    let declared = index_decls(alloc, tag.decls());
+    are_attrs_allowed(
         root_kind(usage),
         &LinkedScope::empty().inside(&declared),
         tag.attrs(),
@@ -63,12 +64,12 @@ pub(crate) fn root_attribute_change(
     tag: &Element,
     sought: &AttributeEdit<'_>,
 ) -> Result<usize, EditRefusal>
-    ensures new_tag_plan { IsRootRetagged usage step.now tag.now sought.now result }
+    ensures new_tag_plan { IsRootTagResult usage step.now tag.now sought.now result }
 {
     if !is_found_in(alloc, &LinkedScope::empty(), step, tag, sought) {
         return Err(not_found_refusal(sought.value));
     }
-    if !attrs_pass_in_root(alloc, usage, tag) {
+    if !are_attrs_allowed_in_root(alloc, usage, tag) {
         return Err(EditRefusal::Faulty(Fault::Invalid));
     }
     Ok(0)

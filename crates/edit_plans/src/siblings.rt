@@ -5,19 +5,22 @@ ghost use Rattle.xml_names.specs.declared.limits.TheConstants.{MAX_LEVELS};
 ghost use Rattle.xml_tree.specs.declared.path.TheConstants.{PATH_LIMIT};
 ghost use Rattle.xml_tree.specs.Tree.{height, child_elements_of};
 ghost use Rattle.usage_docs.specs.declared.schema_table.Key.{Key};
-ghost use Rattle.usage_docs.specs.Keys.{key_of, value_of};
-ghost use Rattle.usage_docs.specs.UniqueKeys.{RepeatsAt, mark, mark_at, mark_of};
-ghost use Rattle.usage_docs.specs.readers.Siblings.{IsFirst};
+ghost use Rattle.usage_docs.specs.KeyAttributes.{key_of, value_of};
+ghost use Rattle.usage_docs.specs.UniqueKeys.{RepeatsKeyAt, sibling_key, sibling_key_at};
+ghost use Rattle.usage_docs.specs.UniqueKeys.{sibling_key_of};
+ghost use Rattle.usage_docs.specs.readers.SiblingElements.{IsFirstInOrder};
 ghost use Rattle.edit_rules.specs.NewElements.{ClashesBeside, ClashesInside, IsDuplicate};
-ghost use Rattle.edit_rules.specs.NewElements.{NoDuplicate};
-ghost use Rattle.usage_docs.specs.Kinds.{kind_of_child};
-ghost use Rattle.edit_plans.specs.inner.ChildChanges.{HasRoom, among, others};
+ghost use Rattle.edit_rules.specs.NewElements.{HasNoDuplicate};
+ghost use Rattle.usage_docs.specs.ElementKinds.{kind_of_child};
+ghost use Rattle.edit_plans.specs.inner.ChildChangeResults.{FitsWithinLevels};
+ghost use Rattle.edit_plans.specs.inner.ChildChangeResults.{number_among_siblings};
+ghost use Rattle.edit_plans.specs.inner.ChildChangeResults.{siblings_without};
 ghost use Rattle.edit_plans.specs.declared.siblings.DuplicateKey.{DuplicateKey};
 
 use node_select::same_text;
 use std::alloc::Global;
 use usage_docs::{Clash, ElementKind, Key, clash_below, key_of, kind_of, value_of};
-use xml_names::{IndexedDecls, declared_in};
+use xml_names::{IndexedDecls, index_decls};
 use xml_tree::{Element, LinkedScope, Node, Path};
 
 /// The siblings of a new element: the children of its parent, except the one that it replaces.
@@ -91,7 +94,7 @@ fn has_value(key: Key, value: &str, child_element: &Element) -> bool
 
 // Whether a child has this element kind and this value of its key. The value is compared first,
 // since few children have it and that is cheaper than finding the kind.
-fn has_mark(
+fn has_sibling_key(
     alloc: Global,
     row: ElementKind,
     scope: &LinkedScope<'_>,
@@ -102,7 +105,8 @@ fn has_mark(
 ) -> bool
     requires { key_of kind ≡ Some key }
     ensures exact { IsTrue result
-        ↔ (mark_of row scope.now child_element.now ≡ Some (mark kind (chars value.now))) }
+        ↔ (sibling_key_of row scope.now child_element.now
+        ≡ Some (sibling_key kind (chars value.now))) }
 {
     if !has_value(key, value, child_element) {
         return false;
@@ -124,7 +128,7 @@ fn is_left_out(left_out: Option<usize>, child: usize) -> bool
 }
 
 // Whether a child isn't left out and has this element kind and this value of its key.
-fn is_marked(
+fn is_sibling_with_key(
     alloc: Global,
     row: ElementKind,
     scope: &LinkedScope<'_>,
@@ -138,17 +142,18 @@ fn is_marked(
     requires { key_of kind ≡ Some key }
     ensures exact { IsTrue result
         ↔ ((left_out ≡ Some child → ⊥)
-        × (mark_of row scope.now child_element.now ≡ Some (mark kind (chars value.now)))) }
+        × (sibling_key_of row scope.now child_element.now
+        ≡ Some (sibling_key kind (chars value.now)))) }
 {
     if is_left_out(left_out, child) {
         return false;
     }
-    has_mark(alloc, row, scope, kind, key, value, child_element)
+    has_sibling_key(alloc, row, scope, kind, key, value, child_element)
 }
 
 // The first sibling with this element kind and this value of its key, by its number among all
 // children.
-fn marked_child(
+fn find_child_with_key(
     alloc: Global,
     row: ElementKind,
     scope: &LinkedScope<'_>,
@@ -160,17 +165,17 @@ fn marked_child(
     requires { key_of kind ≡ Some key }
     ensures some_is_marked { IfSome result
         (λ i. (siblings.now.left_out ≡ Some i → ⊥)
-        × (mark_at row scope.now (child_elements_of siblings.now.parent.now) i
-        ≡ Some (mark kind (chars value.now)))) }
+        × (sibling_key_at row scope.now (child_elements_of siblings.now.parent.now) i
+        ≡ Some (sibling_key kind (chars value.now)))) }
     ensures fits_u64 { IfSome result (λ i. i + 1 < 2 ^ 64) }
     ensures none_is_marked { result ≡ None → (i : ℕ) → (siblings.now.left_out ≡ Some i → ⊥)
-        → mark_at row scope.now (child_elements_of siblings.now.parent.now) i
-        ≡ Some (mark kind (chars value.now)) → ⊥ }
+        → sibling_key_at row scope.now (child_elements_of siblings.now.parent.now) i
+        ≡ Some (sibling_key kind (chars value.now)) → ⊥ }
 {
     let mut i: usize = 0;
     for node in siblings.parent.nodes() {
         if let Node::Elem(child_element) = node {
-            if is_marked(
+            if is_sibling_with_key(
                 alloc,
                 row,
                 scope,
@@ -190,8 +195,8 @@ fn marked_child(
 }
 
 // The number of a child among the others, once one is left out.
-fn among(left_out: Option<usize>, child: usize) -> usize
-    ensures exact { result ≡ among left_out child }
+fn number_among_siblings(left_out: Option<usize>, child: usize) -> usize
+    ensures exact { result ≡ number_among_siblings left_out child }
 {
     match left_out {
         None => child,
@@ -212,16 +217,18 @@ fn find_duplicate(
         (record {
           kind = row;
           scope = scope.now;
-          elements = others siblings.now.left_out (child_elements_of siblings.now.parent.now);
+          elements =
+              siblings_without siblings.now.left_out (child_elements_of siblings.now.parent.now);
         })
         new.now duplicate.child duplicate.key) }
     ensures fits_u64 { IfSome result (λ duplicate. duplicate.child + 1 < 2 ^ 64) }
     ensures none_is_marked { result ≡ None
-        → NoDuplicate
+        → HasNoDuplicate
         (record {
           kind = row;
           scope = scope.now;
-          elements = others siblings.now.left_out (child_elements_of siblings.now.parent.now);
+          elements =
+              siblings_without siblings.now.left_out (child_elements_of siblings.now.parent.now);
         })
         new.now }
 {
@@ -234,11 +241,11 @@ fn find_duplicate(
     let Some(value) = value_of(key, new.attrs()) else {
         return None;
     };
-    let Some(child) = marked_child(alloc, row, scope, kind, key, value, siblings) else {
+    let Some(child) = find_child_with_key(alloc, row, scope, kind, key, value, siblings) else {
         return None;
     };
     Some(DuplicateKey {
-        child: among(siblings.left_out, child),
+        child: number_among_siblings(siblings.left_out, child),
         key,
     })
 }
@@ -262,7 +269,7 @@ fn key_before(duplicate: Option<DuplicateKey>, gap: usize) -> Option<Key>
 }
 
 // The path of a child.
-fn below(place: &Path, child: usize) -> Path
+fn child_path(place: &Path, child: usize) -> Path
     requires { length place.now < PATH_LIMIT }
     ensures exact { result ≡ place.now ++ child ∷ [] }
 {
@@ -281,9 +288,10 @@ fn first_in_new(
     here: &Path,
 ) -> Option<Clash>
     requires { length here.now + height new.now ≤ MAX_LEVELS }
-    ensures first_of_clashes { IsFirst (ClashesInside row scope.now new.now) here.now result }
+    ensures first_of_clashes { IsFirstInOrder (ClashesInside row scope.now new.now) here.now
+        result }
 {
-    let declared = declared_in(alloc, new.decls());
+    let declared = index_decls(alloc, new.decls());
     let inside = (&*scope).inside(&declared);
     let kind = kind_of(row, &inside, new.name())?;
     clash_below(alloc, kind, &inside, new, here)
@@ -300,23 +308,25 @@ pub(crate) fn first_clash_beside(
     gap: usize,
     place: &Path,
 ) -> Option<Clash>
-    requires room_left { HasRoom place.now new.now }
+    requires room_left { FitsWithinLevels place.now new.now }
     requires gap_in_range { gap ≤ length
-        (others siblings.now.left_out (child_elements_of siblings.now.parent.now)) }
+        (siblings_without siblings.now.left_out (child_elements_of siblings.now.parent.now)) }
     requires no_clash { (r : List ℕ) (key : Key)
-        → RepeatsAt row scope.now
-        (others siblings.now.left_out (child_elements_of siblings.now.parent.now)) r key → ⊥ }
-    ensures first_of_clashes { IsFirst
+        → RepeatsKeyAt row scope.now
+        (siblings_without siblings.now.left_out (child_elements_of siblings.now.parent.now)) r key
+        → ⊥ }
+    ensures first_of_clashes { IsFirstInOrder
         (ClashesBeside
         (record {
           kind = row;
           scope = scope.now;
-          elements = others siblings.now.left_out (child_elements_of siblings.now.parent.now);
+          elements =
+              siblings_without siblings.now.left_out (child_elements_of siblings.now.parent.now);
         })
         new.now gap) place.now result }
 {
     let duplicate = find_duplicate(alloc, row, scope, siblings, new);
-    let here = below(place, gap);
+    let here = child_path(place, gap);
     if let Some(key) = key_before(duplicate, gap) {
         return Some(Clash { path: here, key });
     }
@@ -325,7 +335,7 @@ pub(crate) fn first_clash_beside(
     }
     match duplicate {
         Some(duplicate) => Some(Clash {
-            path: below(place, duplicate.child + 1),
+            path: child_path(place, duplicate.child + 1),
             key: duplicate.key,
         }),
         None => None,

@@ -5,7 +5,7 @@ ghost use Rattle.xml_tree.specs.Tree.{Tree, height};
 ghost use Rattle.node_select.specs.declared.selector.End.TheVariants as ends;
 ghost use Rattle.node_select.specs.declared.selector.Selector.{Selector};
 ghost use Rattle.edit_rules.specs.Spots.{EndsInAttribute, IsSpot};
-ghost use Rattle.edit_plans.specs.inner.LongestMatches.{Reaches};
+ghost use Rattle.edit_plans.specs.inner.LongestMatches.{ReachesElement};
 
 use edit_rules::{NoParent, Spot};
 use node_select::{End, Reached, Selector, reach};
@@ -15,7 +15,7 @@ use xml_tree::Element;
 // The edit target of a selector of `many` steps that ends in an element.
 fn element_target(many: usize, reached: Reached) -> Result<Spot, NoParent>
     ensures element_spot { (t : Tree) (selector : Selector) → selector.end ≡ ends.Element
-        → many ≡ length selector.steps → Reaches selector.steps t reached
+        → many ≡ length selector.steps → ReachesElement selector.steps t reached
         → IsSpot t selector result }
 {
     if reached.steps == 0 {
@@ -38,7 +38,7 @@ fn element_target(many: usize, reached: Reached) -> Result<Spot, NoParent>
 // The edit target of a selector of `many` steps that ends in an attribute.
 fn attribute_target(many: usize, reached: Reached) -> Result<Spot, NoParent>
     ensures attribute_spot { (t : Tree) (selector : Selector) → EndsInAttribute selector.end
-        → many ≡ length selector.steps → Reaches selector.steps t reached
+        → many ≡ length selector.steps → ReachesElement selector.steps t reached
         → IsSpot t selector result }
 {
     if reached.steps == 0 {

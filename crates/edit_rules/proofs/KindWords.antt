@@ -8,7 +8,7 @@ use Rattle.std.specs.List.{flat_map}
 use Rattle.xml_names.specs.declared.names.Name.{Name}
 use Rattle.usage_docs.specs.declared.schema_table.ElementKind.{ElementKind}
 use Rattle.usage_docs.specs.declared.schema_table.ElementKind.TheVariants.{ResourceLists, EntryList, Entry, EntryRef, External, DisplayName, RlsServices, Service, ResourceList, Packages, Package}
-use Rattle.usage_docs.specs.SchemaTable.{Scope, child_kind, children_in, items_in, kind_by, kind_in, kind_of, content_model_of, namespace_of_children, element_namespace, local_name_of}
+use Rattle.usage_docs.specs.SchemaTable.{Scope, child_kind, item_children, items_in, kind_by_name, known_kind, kind_of, content_model_of, namespace_of_children, element_namespace, local_name_of}
 
 -- the kind of that local name
 abbrev word_kind : List ℕ → Option ElementKind
@@ -37,7 +37,7 @@ found_so w (x ∷ ks) k h = by (bytes_eq w (local_name_of x)) refl (found_so w k
 -- a child of a kind has the kind's local name
 pub named_as : (row : ElementKind) (w : List ℕ) (k : ElementKind) → child_kind row w ≡ Some k → w ≡ local_name_of k
 unfolding child_kind
-named_as row w k h = found_so w (filter_map kind_in (flat_map children_in (items_in (content_model_of row)))) k h
+named_as row w k h = found_so w (filter_map known_kind (flat_map item_children (items_in (content_model_of row)))) k h
 
 its_kind : (k : ElementKind) → word_kind (local_name_of k) ≡ Some k
 unfolding local_name_of
@@ -59,23 +59,23 @@ if_so : (b : Bool) (o : Option ElementKind) (k : ElementKind) → cond b o None 
 if_so true o k h = (refl, h)
 if_so false o k h = cc
 
-pub in_space : (row : ElementKind) (space w : List ℕ) (k : ElementKind) → kind_by row space w ≡ Some k → (space ≡ namespace_of_children row) × (child_kind row w ≡ Some k)
+pub in_space : (row : ElementKind) (space w : List ℕ) (k : ElementKind) → kind_by_name row space w ≡ Some k → (space ≡ namespace_of_children row) × (child_kind row w ≡ Some k)
 in_space row space w k h = let r = if_so (bytes_eq space (namespace_of_children row)) (child_kind row w) k h in ((bytes_eq-Decides space (namespace_of_children row)).0 r.0, r.1)
 
 -- a name is the name of one kind, below elements of any kinds
-pub one_kind : (row row' : ElementKind) (space w : List ℕ) (k k' : ElementKind) → kind_by row space w ≡ Some k → kind_by row' space w ≡ Some k' → k ≡ k'
+pub one_kind : (row row' : ElementKind) (space w : List ℕ) (k k' : ElementKind) → kind_by_name row space w ≡ Some k → kind_by_name row' space w ≡ Some k' → k ≡ k'
 one_kind row row' space w k k' h h' =
     let a = (in_space row space w k h).1 in
     let b = (in_space row' space w k' h').1 in
     same_Some k k' (sym (its_kind k) ∙ ap word_kind (sym (named_as row w k a) ∙ named_as row' w k' b) ∙ its_kind k')
 
 -- one kind below one kind has one name
-pub one_name : (row : ElementKind) (space w space' w' : List ℕ) (k : ElementKind) → kind_by row space w ≡ Some k → kind_by row space' w' ≡ Some k → (space ≡ space') × (w ≡ w')
+pub one_name : (row : ElementKind) (space w space' w' : List ℕ) (k : ElementKind) → kind_by_name row space w ≡ Some k → kind_by_name row space' w' ≡ Some k → (space ≡ space') × (w ≡ w')
 one_name row space w space' w' k h h' =
     let a = in_space row space w k h in
     let b = in_space row space' w' k h' in
     (a.0 ∙ sym b.0, named_as row w k a.1 ∙ sym (named_as row w' k b.1))
 
-pub kind_is_by : (row : ElementKind) (c : Scope) (n : Name) → kind_of row c n ≡ kind_by row (element_namespace c n) n.local
+pub kind_is_by : (row : ElementKind) (c : Scope) (n : Name) → kind_of row c n ≡ kind_by_name row (element_namespace c n) n.local
 unfolding kind_of
 kind_is_by row c n = refl

@@ -25,22 +25,22 @@ use Rattle.edit_rules.specs.declared.spot.Spot.{Spot}
 use Rattle.edit_rules.specs.declared.spot.Spot.TheVariants.{Over, Under, Beside, Value}
 use Rattle.edit_rules.specs.declared.spot.NoParent.{NoParent}
 use Rattle.usage_docs.specs.declared.validation.Fault.TheVariants.{Invalid}
-use Rattle.edit_rules.specs.declared.refusal.EditRefusal.{EditRefusal}
-use Rattle.edit_rules.specs.declared.refusal.EditRefusal.TheVariants.{CannotInsert, CannotDelete, Faulty}
-use Rattle.edit_rules.specs.Attributes.{FindsValue, IsAttrPlan, IsValuePlan, IsWriting, written_name}
-use Rattle.edit_rules.specs.Deletions.{FindsNothingAfter, IsDeletePlan, IsDrop, IsPlanFor, IsRemoval}
-use Rattle.edit_rules.specs.LawfulPlaces.{IsLawfulGap, IsLawfulReplacement}
-use Rattle.edit_rules.specs.Plans.{IsJudged, IsTested, by_fault}
-use Rattle.edit_rules.specs.Puts.{FromGap, IsInsertion, IsPutPlan}
+use Rattle.edit_rules.specs.declared.edit_refusal.EditRefusal.{EditRefusal}
+use Rattle.edit_rules.specs.declared.edit_refusal.EditRefusal.TheVariants.{CannotInsert, CannotDelete, Faulty}
+use Rattle.edit_rules.specs.AttributePuts.{FindsValue, IsAttrPlan, IsValuePlan, IsAttributeWrite, written_name}
+use Rattle.edit_rules.specs.Deletions.{FindsNothingAfter, IsDeletePlan, IsAttributeRemoval, IsDeletePlanFor, IsElementRemoval}
+use Rattle.edit_rules.specs.LawfulInsertions.{IsLawfulGap, IsLawfulReplacement}
+use Rattle.edit_rules.specs.CheckedChanges.{IsCheckedChange, IsCheckedIfLawful, change_or_fault}
+use Rattle.edit_rules.specs.ElementPuts.{IsResultOfGap, IsElementInsertion, IsPutPlan}
 use Rattle.edit_rules.specs.Spots.{EndsInAttribute, IsSpot, IsSpotOf, SelectsParent}
 
 -- ---- a change by the first fault, and a tested change
 
 module _ (u : Usage) (t : Tree) (change : Change) where
-  one_judgement : (r s : Result Change EditRefusal) → IsJudged u t change r → IsJudged u t change s → r ≡ s
-  one_judgement r s a b = a.1.1 ∙ ap (by_fault change) (judged_one u (edited t change) a.0 b.0 a.1.0 b.1.0) ∙ sym b.1.1
+  one_judgement : (r s : Result Change EditRefusal) → IsCheckedChange u t change r → IsCheckedChange u t change s → r ≡ s
+  one_judgement r s a b = a.1.1 ∙ ap (change_or_fault change) (judged_one u (edited t change) a.0 b.0 a.1.0 b.1.0) ∙ sym b.1.1
 
-  one_test : (unlawful : EditRefusal) (lawful : Type 0) (r s : Result Change EditRefusal) → IsTested unlawful lawful (IsJudged u t change) r → IsTested unlawful lawful (IsJudged u t change) s → r ≡ s
+  one_test : (unlawful : EditRefusal) (lawful : Type 0) (r s : Result Change EditRefusal) → IsCheckedIfLawful unlawful lawful (IsCheckedChange u t change) r → IsCheckedIfLawful unlawful lawful (IsCheckedChange u t change) s → r ≡ s
   one_test unlawful lawful r s (inl a) (inl b) = a.0 ∙ sym b.0
   one_test unlawful lawful r s (inl a) (inr b) = absurd (a.1 b.0)
   one_test unlawful lawful r s (inr a) (inl b) = absurd (b.1 a.0)
@@ -48,18 +48,18 @@ module _ (u : Usage) (t : Tree) (change : Change) where
 
 -- ---- PUT of an element
 
-from_one_gap : (u : Usage) (t : Tree) (q : List ℕ) (e : Tree) (g : Result ℕ EditRefusal) (r s : Result Change EditRefusal) → FromGap (λ gap. IsJudged u t (Insert q gap e)) g r → FromGap (λ gap. IsJudged u t (Insert q gap e)) g s → r ≡ s
+from_one_gap : (u : Usage) (t : Tree) (q : List ℕ) (e : Tree) (g : Result ℕ EditRefusal) (r s : Result Change EditRefusal) → IsResultOfGap (λ gap. IsCheckedChange u t (Insert q gap e)) g r → IsResultOfGap (λ gap. IsCheckedChange u t (Insert q gap e)) g s → r ≡ s
 from_one_gap u t q e (Ok gap) r s a b = one_judgement u t (Insert q gap e) r s a b
 from_one_gap u t q e (Err why) r s a b = a ∙ sym b
 
-one_insertion : (u : Usage) (t : Tree) (steps : List Step) (q : List ℕ) (e : Tree) (r s : Result Change EditRefusal) → IsInsertion (record { usage = u; document = t; steps = steps }) q e r → IsInsertion (record { usage = u; document = t; steps = steps }) q e s → r ≡ s
+one_insertion : (u : Usage) (t : Tree) (steps : List Step) (q : List ℕ) (e : Tree) (r s : Result Change EditRefusal) → IsElementInsertion (record { usage = u; document = t; steps = steps }) q e r → IsElementInsertion (record { usage = u; document = t; steps = steps }) q e s → r ≡ s
 one_insertion u t steps q e r s a b =
     let many : length (child_elements_of b.parent) ≡ length (child_elements_of a.parent) = ap (λ (x : Tree). length (child_elements_of x)) (same_Some _ _ (sym b.there ∙ a.there)) in
     let L = IsLawfulGap steps t e q in
     let V : ℕ → Type 0 = λ j. usage.IsValidDocument u (put_in q j e t) in
     let other = subst (λ (n : ℕ). IsInsertionPlan CannotInsert (Faulty Invalid) L V (n + 1) b.gap) many b.is_chosen in
     let same : a.gap ≡ b.gap = one_plan CannotInsert (Faulty Invalid) L V (length (child_elements_of a.parent) + 1) a.gap b.gap a.is_chosen other in
-    from_one_gap u t q e b.gap r s (subst (λ (g : Result ℕ EditRefusal). FromGap (λ gap. IsJudged u t (Insert q gap e)) g r) same a.then) b.then
+    from_one_gap u t q e b.gap r s (subst (λ (g : Result ℕ EditRefusal). IsResultOfGap (λ gap. IsCheckedChange u t (Insert q gap e)) g r) same a.then) b.then
 
 pub one_put : (u : Usage) (t : Tree) (steps : List Step) (spot : Spot) (e : Tree) (r s : Result Change EditRefusal) → IsPutPlan (record { usage = u; document = t; steps = steps }) spot e r → IsPutPlan (record { usage = u; document = t; steps = steps }) spot e s → r ≡ s
 one_put u t steps (Over p) e r s a b = one_test u t (Replace p e) CannotInsert (IsLawfulReplacement steps t e p) r s a b
@@ -69,7 +69,7 @@ one_put u t steps (Value p) e r s a b = absurd a
 
 -- ---- PUT of an attribute
 
-one_writing : (u : Usage) (t : Tree) (steps : List Step) (uri local p value : List ℕ) (name : Option Name) (r s : Result Change EditRefusal) → IsWriting (record { usage = u; document = t; steps = steps }) (record { path = p; uri = uri; local = local }) value name r → IsWriting (record { usage = u; document = t; steps = steps }) (record { path = p; uri = uri; local = local }) value name s → r ≡ s
+one_writing : (u : Usage) (t : Tree) (steps : List Step) (uri local p value : List ℕ) (name : Option Name) (r s : Result Change EditRefusal) → IsAttributeWrite (record { usage = u; document = t; steps = steps }) (record { path = p; uri = uri; local = local }) value name r → IsAttributeWrite (record { usage = u; document = t; steps = steps }) (record { path = p; uri = uri; local = local }) value name s → r ≡ s
 one_writing u t steps uri local p value (Some name) r s a b = one_test u t (SetAttr p name value) CannotInsert (FindsValue steps (record { path = p; uri = uri; local = local }) (edited t (SetAttr p name value)) value) r s a b
 one_writing u t steps uri local p value None r s a b = a ∙ sym b
 
@@ -77,7 +77,7 @@ one_value : (u : Usage) (t : Tree) (steps : List Step) (uri local p value : List
 one_value u t steps uri local p value r s a b =
     let same = same_Some _ _ (sym b.there ∙ a.there) in
     one_writing u t steps uri local p value (written_name (scope_at p t) uri local a.element.attrs) r s a.plan
-    (subst (λ (x : Tree). IsWriting (record { usage = u; document = t; steps = steps }) (record { path = p; uri = uri; local = local }) value (written_name (scope_at p t) uri local x.attrs) s) same b.plan)
+    (subst (λ (x : Tree). IsAttributeWrite (record { usage = u; document = t; steps = steps }) (record { path = p; uri = uri; local = local }) value (written_name (scope_at p t) uri local x.attrs) s) same b.plan)
 
 pub one_attr : (u : Usage) (t : Tree) (steps : List Step) (end : End) (p value : List ℕ) (r s : Result Change EditRefusal) → IsAttrPlan (record { usage = u; document = t; steps = steps }) end p value r → IsAttrPlan (record { usage = u; document = t; steps = steps }) end p value s → r ≡ s
 one_attr u t steps (ends.Attribute uri local) p value r s a b = one_value u t steps uri local p value r s a b
@@ -86,17 +86,17 @@ one_attr u t steps ends.Namespaces p value r s a b = absurd a
 
 -- ---- DELETE
 
-one_removal : (u : Usage) (t : Tree) (selector : Selector) (p : List ℕ) (r s : Result Change EditRefusal) → IsRemoval (record { usage = u; document = t; selector = selector }) p r → IsRemoval (record { usage = u; document = t; selector = selector }) p s → r ≡ s
+one_removal : (u : Usage) (t : Tree) (selector : Selector) (p : List ℕ) (r s : Result Change EditRefusal) → IsElementRemoval (record { usage = u; document = t; selector = selector }) p r → IsElementRemoval (record { usage = u; document = t; selector = selector }) p s → r ≡ s
 one_removal u t selector [] r s a b = a ∙ sym b
 one_removal u t selector (n ∷ p) r s a b = one_test u t (Remove (n ∷ p)) CannotDelete (FindsNothingAfter selector t (Remove (n ∷ p))) r s a b
 
-one_drop : (u : Usage) (t : Tree) (selector : Selector) (p : List ℕ) (e : Tree) (uri local : List ℕ) (r s : Result Change EditRefusal) → IsDrop (record { usage = u; document = t; selector = selector }) (record { path = p; uri = uri; local = local }) e r → IsDrop (record { usage = u; document = t; selector = selector }) (record { path = p; uri = uri; local = local }) e s → r ≡ s
+one_drop : (u : Usage) (t : Tree) (selector : Selector) (p : List ℕ) (e : Tree) (uri local : List ℕ) (r s : Result Change EditRefusal) → IsAttributeRemoval (record { usage = u; document = t; selector = selector }) (record { path = p; uri = uri; local = local }) e r → IsAttributeRemoval (record { usage = u; document = t; selector = selector }) (record { path = p; uri = uri; local = local }) e s → r ≡ s
 one_drop u t selector p e uri local r s a b =
     let same : b.attr ≡ a.attr = same_Some _ _ (sym b.that ∙ a.that) in
     one_test u t (DropAttr p a.attr.name) CannotDelete (FindsNothingAfter selector t (DropAttr p a.attr.name)) r s a.then
-    (subst (λ (x : Attr). IsTested CannotDelete (FindsNothingAfter selector t (DropAttr p x.name)) (IsJudged u t (DropAttr p x.name)) s) same b.then)
+    (subst (λ (x : Attr). IsCheckedIfLawful CannotDelete (FindsNothingAfter selector t (DropAttr p x.name)) (IsCheckedChange u t (DropAttr p x.name)) s) same b.then)
 
-one_plan_for : (u : Usage) (t : Tree) (selector : Selector) (p : List ℕ) (e : Tree) (end : End) (r s : Result Change EditRefusal) → IsPlanFor (record { usage = u; document = t; selector = selector }) p e end r → IsPlanFor (record { usage = u; document = t; selector = selector }) p e end s → r ≡ s
+one_plan_for : (u : Usage) (t : Tree) (selector : Selector) (p : List ℕ) (e : Tree) (end : End) (r s : Result Change EditRefusal) → IsDeletePlanFor (record { usage = u; document = t; selector = selector }) p e end r → IsDeletePlanFor (record { usage = u; document = t; selector = selector }) p e end s → r ≡ s
 one_plan_for u t selector p e ends.Element r s a b = one_removal u t selector p r s a b
 one_plan_for u t selector p e (ends.Attribute uri local) r s a b = one_drop u t selector p e uri local r s a b
 one_plan_for u t selector p e ends.Namespaces r s a b = absurd a
@@ -111,7 +111,7 @@ one_delete u t selector r s (inr a) (inr b) =
     let path : g.path ≡ f.path = one_path selector.steps t g.path f.path g.selects f.selects in
     let element : g.element ≡ f.element = same_Some _ _ (sym g.there ∙ ap (λ (l : List ℕ). at l t) path ∙ f.there) in
     one_plan_for u t selector f.path f.element selector.end r s a.1
-    (subst (λ (x : Tree). IsPlanFor (record { usage = u; document = t; selector = selector }) f.path x selector.end s) element (subst (λ (l : List ℕ). IsPlanFor (record { usage = u; document = t; selector = selector }) l g.element selector.end s) path b.1))
+    (subst (λ (x : Tree). IsDeletePlanFor (record { usage = u; document = t; selector = selector }) f.path x selector.end s) element (subst (λ (l : List ℕ). IsDeletePlanFor (record { usage = u; document = t; selector = selector }) l g.element selector.end s) path b.1))
 
 -- ---- the edit target of a PUT
 

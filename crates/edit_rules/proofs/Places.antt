@@ -3,19 +3,19 @@
 use Rattle.std.proofs.Common.{◌≡◌, ℕ, zero, suc, List, [], ◌∷◌, ◌++◌, Option, Some, option_map, unwrap_or, slice_get, refl, sym, ap, ◌∙◌, subst}
 use Rattle.std.proofs.lemmas.Option.{same_Some}
 use Rattle.xml_tree.specs.Tree.{Content, last, more, comment_node, more_of, Tree, tree_of, child_elements, child_elements_of, at}
-use Rattle.xml_tree.specs.Edits.{change, change_at, put_over}
+use Rattle.xml_tree.specs.Edits.{change_element, change_at, put_over}
 use Rattle.xml_tree.specs.TreeScopes.{scope_at}
 use Rattle.xml_names.specs.declared.names.Decl.{Decl}
 use Rattle.edit_rules.proofs.Options.{through_kid}
 
 -- two changes with equal results on a child
-change_alike : (n : ℕ) (f g : Tree → Tree) (content : Content) (child_element : Tree) → slice_get (child_elements content) n ≡ Some child_element → f child_element ≡ g child_element → change n f content ≡ change n g content
+change_alike : (n : ℕ) (f g : Tree → Tree) (content : Content) (child_element : Tree) → slice_get (child_elements content) n ≡ Some child_element → f child_element ≡ g child_element → change_element n f content ≡ change_element n g content
 change_alike n f g (last t) child_element there h = refl
 change_alike zero f g (more t m ds ats k rest) child_element there h = ap (λ (x : Tree). more_of t x rest) (subst (λ (x : Tree). f x ≡ g x) (sym (same_Some (tree_of m ds ats k) child_element there)) h)
 change_alike (suc n) f g (more t m ds ats k rest) child_element there h = ap (more t m ds ats k) (change_alike n f g rest child_element there h)
 change_alike n f g (comment_node t x rest) child_element there h = ap (comment_node t x) (change_alike n f g rest child_element there h)
 
-change_none : (n : ℕ) (content : Content) → change n (λ (x : Tree). x) content ≡ content
+change_none : (n : ℕ) (content : Content) → change_element n (λ (x : Tree). x) content ≡ content
 change_none n (last t) = refl
 change_none zero (more t m ds ats k rest) = refl
 change_none (suc n) (more t m ds ats k rest) = ap (more t m ds ats k) (change_none n rest)

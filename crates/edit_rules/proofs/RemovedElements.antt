@@ -3,7 +3,7 @@
 use Rattle.std.proofs.Common.{◌≡◌, ◌⊎◌, ◌↔◌, inl, inr, ℕ, zero, suc, ◌<◌, ◌≤◌, List, [], ◌∷◌, ◌++◌, remove, Some, option_and_then, slice_get, refl, sym, ap, ◌∙◌, subst, append_assoc, arith}
 use Rattle.std.proofs.lemmas.Bool.{cases_lt}
 use Rattle.xml_tree.specs.Tree.{Content, last, more, comment_node, Tree, child_elements_of, at}
-use Rattle.xml_tree.specs.Edits.{with_text_before, cut, cut_child, take_in}
+use Rattle.xml_tree.specs.Edits.{with_text_prepended, cut, cut_child, take_in}
 use Rattle.xml_tree.specs.TreeScopes.{scope_at}
 use Rattle.xml_tree.proofs.PlaceLaws.{child_elements-cut}
 use Rattle.xml_tree.proofs.TreeScopeLemmas.{scope_at-below}
@@ -14,33 +14,33 @@ use Rattle.doc_names.specs.declared.usages.Usage.{Usage}
 use Rattle.usage_docs.specs.declared.schema_table.ElementKind.{ElementKind}
 use Rattle.usage_docs.specs.declared.schema_table.Key.{Key}
 use Rattle.usage_docs.specs.SchemaTable.{Scope, root_kind}
-use Rattle.usage_docs.specs.UniqueKeys.{mark_of, RepeatsAt, HasUniqueKeys}
-use Rattle.usage_docs.specs.Texts.{text_of}
-use Rattle.usage_docs.specs.Forms.{AllFormed, MeetsConstraints}
+use Rattle.usage_docs.specs.UniqueKeys.{sibling_key_of, RepeatsKeyAt, HasUniqueKeys}
+use Rattle.usage_docs.specs.ContentTexts.{content_text}
+use Rattle.usage_docs.specs.ReferenceForms.{AllReferencesFormed, MeetsConstraints}
 use Rattle.edit_rules.proofs.ClashesAt.{clash_beside, unique_there}
 use Rattle.edit_rules.proofs.FormedBeside.{formed_after, formed_there}
 use Rattle.edit_rules.proofs.StaysSelected.{stays_selected, last_step_after}
 
 -- ---- constraints
 
-text_before : (t : List ℕ) (rest : Content) → text_of (with_text_before t rest) ≡ t ++ text_of rest
+text_before : (t : List ℕ) (rest : Content) → content_text (with_text_prepended t rest) ≡ t ++ content_text rest
 text_before t (last u) = refl
-text_before t (more u n ds ats k rest) = append_assoc t u (text_of rest)
-text_before t (comment_node u x rest) = append_assoc t u (text_of rest)
+text_before t (more u n ds ats k rest) = append_assoc t u (content_text rest)
+text_before t (comment_node u x rest) = append_assoc t u (content_text rest)
 
-text_cut : (i : ℕ) (content : Content) → text_of (cut i content) ≡ text_of content
+text_cut : (i : ℕ) (content : Content) → content_text (cut i content) ≡ content_text content
 text_cut i (last t) = refl
 text_cut zero (more t n ds ats k rest) = text_before t rest
 text_cut (suc i) (more t n ds ats k rest) = ap (λ s. t ++ s) (text_cut i rest)
 text_cut i (comment_node t x rest) = ap (λ s. t ++ s) (text_cut i rest)
 
 module _ (row : ElementKind) (c : Scope) where
-  formed_before : (t : List ℕ) (rest : Content) → AllFormed row c rest → AllFormed row c (with_text_before t rest)
+  formed_before : (t : List ℕ) (rest : Content) → AllReferencesFormed row c rest → AllReferencesFormed row c (with_text_prepended t rest)
   formed_before t (last u) h = h
   formed_before t (more u n ds ats k rest) h = h
   formed_before t (comment_node u x rest) h = h
 
-  formed_cut : (i : ℕ) (content : Content) → AllFormed row c content → AllFormed row c (cut i content)
+  formed_cut : (i : ℕ) (content : Content) → AllReferencesFormed row c content → AllReferencesFormed row c (cut i content)
   formed_cut i (last t) h = h
   formed_cut zero (more t n ds ats k rest) h = formed_before t rest h.1
   formed_cut (suc i) (more t n ds ats k rest) h = (h.0, formed_cut i rest h.1)
@@ -49,7 +49,7 @@ module _ (row : ElementKind) (c : Scope) where
 pub formed_without : (u : Usage) (t parent : Tree) (q : List ℕ) (i : ℕ) → at q t ≡ Some parent → MeetsConstraints u t → MeetsConstraints u (take_in q i t)
 formed_without u t parent q i there old =
     (formed_after u t parent q (cut_child i) (λ e. refl) (λ e. text_cut i e.content) there old).1 (λ kind is.
-    formed_cut kind (scope_at q t) i parent.content (subst (λ (d : Scope). AllFormed kind d parent.content) (sym (scope_at-below q t)) (formed_there q (root_kind u) (t.decls ∷ []) t parent kind there is old)))
+    formed_cut kind (scope_at q t) i parent.content (subst (λ (d : Scope). AllReferencesFormed kind d parent.content) (sym (scope_at-below q t)) (formed_there q (root_kind u) (t.decls ∷ []) t parent kind there is old)))
 
 -- ---- uniqueness
 
@@ -73,7 +73,7 @@ module _ (row : ElementKind) (c : Scope) (xs : List Tree) (i : ℕ) where
   in_order a b a' b' lt (inr p) (inl r) = let e = p.1 in let f = r.1 in let l = p.0 in let m = r.0 in omega arith
   in_order a b a' b' lt (inr p) (inr r) = let e = p.1 in let f = r.1 in omega arith
 
-  pub old_clash : (r : List ℕ) (key : Key) → RepeatsAt row c (remove xs i) r key → (r' : List ℕ) × RepeatsAt row c xs r' key
+  pub old_clash : (r : List ℕ) (key : Key) → RepeatsKeyAt row c (remove xs i) r key → (r' : List ℕ) × RepeatsKeyAt row c xs r' key
   old_clash [] key h = absurd h
   old_clash (k ∷ []) key h =
       let a = was_at h.earlier in
@@ -83,8 +83,8 @@ module _ (row : ElementKind) (c : Scope) (xs : List Tree) (i : ℕ) where
           shared = h.shared;
           earlier = a.0;
           comes_first = in_order h.earlier k a.0 b.0 h.comes_first a.1.1 b.1.1;
-          that = ap (option_and_then (mark_of row c)) (sym a.1.0) ∙ h.that;
-          this = ap (option_and_then (mark_of row c)) (sym b.1.0) ∙ h.this;
+          that = ap (option_and_then (sibling_key_of row c)) (sym a.1.0) ∙ h.that;
+          this = ap (option_and_then (sibling_key_of row c)) (sym b.1.0) ∙ h.this;
           by_key = h.by_key;
         },
       )
@@ -94,7 +94,7 @@ pub unique_without : (u : Usage) (t parent : Tree) (q : List ℕ) (i : ℕ) → 
 unique_without u t parent q i there unique p key h =
     let b = clash_beside u t parent q (cut_child i) p key (λ e. refl) there unique h in
     let r = b.1.1.0 in
-    let clash = subst (λ (xs : List Tree). RepeatsAt b.0 (scope_at q t) xs r key) (child_elements-cut i parent.content) b.1.1.1.1 in
+    let clash = subst (λ (xs : List Tree). RepeatsKeyAt b.0 (scope_at q t) xs r key) (child_elements-cut i parent.content) b.1.1.1.1 in
     let o = old_clash b.0 (scope_at q t) (child_elements_of parent) i r key clash in
     unique_there u t parent q b.0 there b.1.0 unique o.0 key o.1
 

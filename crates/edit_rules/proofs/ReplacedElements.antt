@@ -11,13 +11,13 @@ use Rattle.xml_tree.proofs.PlaceLaws.{change_at-append}
 use Rattle.xml_tree.proofs.TreeScopeLemmas.{scope_at-below}
 use Rattle.usage_docs.specs.declared.schema_table.ElementKind.{ElementKind}
 use Rattle.usage_docs.specs.declared.schema_table.Key.{Key}
-use Rattle.usage_docs.specs.declared.keys.Clash.{Clash}
+use Rattle.usage_docs.specs.declared.key_repeats.Clash.{Clash}
 use Rattle.usage_docs.specs.SchemaTable.{Scope, root_kind}
-use Rattle.usage_docs.specs.UniqueKeys.{RepeatsAt, HasUniqueKeys, IsFirstClash}
-use Rattle.usage_docs.specs.Forms.{AllFormed, MeetsConstraints, IsNodeFormed}
-use Rattle.usage_docs.specs.readers.Siblings.{IsFirst}
-use Rattle.usage_docs.specs.Kinds.{kind_at}
-use Rattle.edit_rules.specs.NewElements.{NoDuplicate, UniqueInside, ClashesBeside}
+use Rattle.usage_docs.specs.UniqueKeys.{RepeatsKeyAt, HasUniqueKeys, IsFirstClash}
+use Rattle.usage_docs.specs.ReferenceForms.{AllReferencesFormed, MeetsConstraints, IsFormedNode}
+use Rattle.usage_docs.specs.readers.SiblingElements.{IsFirstInOrder}
+use Rattle.usage_docs.specs.ElementKinds.{kind_at}
+use Rattle.edit_rules.specs.NewElements.{HasNoDuplicate, HasUniqueKeysInside, ClashesBeside}
 use Rattle.edit_rules.proofs.ClashesAt.{unique_there}
 use Rattle.edit_rules.proofs.FirstBeside.{first_from, first_to, none_foreign, unique_after}
 use Rattle.edit_rules.proofs.FormedBeside.{change_from, change_to, formed_after, formed_there, text_changed}
@@ -43,12 +43,12 @@ module _ (u : Usage) (t parent child_element new : Tree) (q : List ℕ) (i : ℕ
   -- ---- clashes
 
   module _ (unique : HasUniqueKeys u t) where
-    clean : (kind : ElementKind) → kind_at u t q ≡ Some kind → (r : List ℕ) (key : Key) → RepeatsAt kind (scope_at q t) others r key → ⊥
+    clean : (kind : ElementKind) → kind_at u t q ≡ Some kind → (r : List ℕ) (key : Key) → RepeatsKeyAt kind (scope_at q t) others r key → ⊥
     clean kind is r key h =
         let o = old_clash kind (scope_at q t) (child_elements_of parent) i r key h in
         unique_there u t parent q kind there is unique o.0 key o.1
 
-    pub first_over : (kind : ElementKind) → kind_at u t q ≡ Some kind → (found : Option Clash) → IsFirst (ClashesBeside (record { kind = kind; scope = scope_at q t; elements = others }) new i) q found ↔ IsFirstClash u (put_over (q ++ i ∷ []) new t) found
+    pub first_over : (kind : ElementKind) → kind_at u t q ≡ Some kind → (found : Option Clash) → IsFirstInOrder (ClashesBeside (record { kind = kind; scope = scope_at q t; elements = others }) new i) q found ↔ IsFirstClash u (put_over (q ++ i ∷ []) new t) found
     first_over kind is found = (
       λ f. subst (λ (x : Tree). IsFirstClash u x found) (sym as_change) (first_to u t parent new q exchange others i (λ e. refl) there kids_are within unique clean kind is found f),
       λ f. first_from u t parent new q exchange others i (λ e. refl) there kids_are within unique clean kind is found (subst (λ (x : Tree). IsFirstClash u x found) as_change f),
@@ -57,18 +57,18 @@ module _ (u : Usage) (t parent child_element new : Tree) (q : List ℕ) (i : ℕ
     pub foreign_over : kind_at u t q ≡ None → HasUniqueKeys u (put_over (q ++ i ∷ []) new t)
     foreign_over none = subst (λ (x : Tree). HasUniqueKeys u x) (sym as_change) (none_foreign u t parent new q exchange others i (λ e. refl) there kids_are within unique clean none)
 
-    pub unique_over : HasUniqueKeys u (put_over (q ++ i ∷ []) new t) ↔ ForSome (kind_at u t q) (λ kind. NoDuplicate (record { kind = kind; scope = scope_at q t; elements = others }) new × UniqueInside kind (scope_at q t) new)
+    pub unique_over : HasUniqueKeys u (put_over (q ++ i ∷ []) new t) ↔ ForSome (kind_at u t q) (λ kind. HasNoDuplicate (record { kind = kind; scope = scope_at q t; elements = others }) new × HasUniqueKeysInside kind (scope_at q t) new)
     unique_over =
         let a = unique_after u t parent new q exchange others i (λ e. refl) there kids_are within unique clean in
         (λ h. a.0 (subst (λ (x : Tree). HasUniqueKeys u x) as_change h), λ h. subst (λ (x : Tree). HasUniqueKeys u x) (sym as_change) (a.1 h))
 
   -- ---- constraints
 
-  pub formed_over : MeetsConstraints u t → MeetsConstraints u (put_over (q ++ i ∷ []) new t) ↔ ForSome (kind_at u t q) (λ kind. IsNodeFormed kind (scope_at q t) (Elem new))
+  pub formed_over : MeetsConstraints u t → MeetsConstraints u (put_over (q ++ i ∷ []) new t) ↔ ForSome (kind_at u t q) (λ kind. IsFormedNode kind (scope_at q t) (Elem new))
   formed_over old =
       let a = formed_after u t parent q exchange (λ e. refl) (λ e. text_changed i (λ _. new) e.content) there old in (
         λ h kind is. change_to kind (scope_at q t) (λ _. new) i parent.content child_element is_kid (a.0 (subst (λ (x : Tree). MeetsConstraints u x) as_change h) kind is),
         λ h. subst (λ (x : Tree). MeetsConstraints u x) (sym as_change) (a.1 (λ kind is.
             let here = formed_there q (root_kind u) (t.decls ∷ []) t parent kind there is old in
-            change_from kind (scope_at q t) (λ _. new) i parent.content child_element is_kid (subst (λ (d : Scope). AllFormed kind d parent.content) (sym (scope_at-below q t)) here) (h kind is))),
+            change_from kind (scope_at q t) (λ _. new) i parent.content child_element is_kid (subst (λ (d : Scope). AllReferencesFormed kind d parent.content) (sym (scope_at-below q t)) here) (h kind is))),
       )

@@ -2,12 +2,12 @@
 -- steps after it decide alone.
 use Rattle.std.proofs.Common.{◌≡◌, ◌↔◌, ◌≤◌, ℕ, zero, suc, Bool, IsTrue, List, [], ◌∷◌, ◌++◌, length, map, set, Option, Some, None, option_map, unwrap_or, slice_get, refl, sym, ap, ◌∙◌, subst}
 use Rattle.std.proofs.lemmas.Option.{same_Some}
-use Rattle.node_select.specs.StepSelection.{AreAlike, Selects}
+use Rattle.node_select.specs.StepSelection.{HaveSameTestResults, Selects}
 use Rattle.node_select.specs.InsertionPoints.{IsLawfulInsertion}
 use Rattle.node_select.proofs.SelectionAgreement.{select_alike}
 use Rattle.node_select.proofs.EditedSelection.{replaced}
 use Rattle.xml_tree.specs.Tree.{Content, last, more, comment_node, Tree, tree_of, child_elements, child_elements_of, at}
-use Rattle.xml_tree.specs.Edits.{change, change_at, change_child, put_in, put_kid, put_over}
+use Rattle.xml_tree.specs.Edits.{change_element, change_at, change_child, put_in, put_kid, put_over}
 use Rattle.xml_tree.specs.TreeScopes.{scope_at, scope_below, inside}
 use Rattle.xml_names.specs.declared.names.Decl.{Decl}
 use Rattle.xml_tree.proofs.PlaceLaws.{at-changed, child_elements-put, change_at-append}
@@ -15,44 +15,44 @@ use Rattle.xml_tree.proofs.TreeScopeLemmas.{scope_at-below}
 use Rattle.node_select.specs.declared.selector.Step.{Step}
 use Rattle.node_select.specs.Selection.{is_named, is_tested, SelectsChild, SelectsAmong, SelectsPath}
 use Rattle.node_select.proofs.Along.{last_step_to, last_step_from}
-use Rattle.edit_rules.specs.LawfulPlaces.{KeepsTag, IsLawfulGap, IsLawfulReplacement}
+use Rattle.edit_rules.specs.LawfulInsertions.{KeepsStartTag, IsLawfulGap, IsLawfulReplacement}
 
 -- the ancestors keep their tags too
-pub keeps_at : (q : List ℕ) (f : Tree → Tree) → KeepsTag f → KeepsTag (change_at q f)
+pub keeps_at : (q : List ℕ) (f : Tree → Tree) → KeepsStartTag f → KeepsStartTag (change_at q f)
 keeps_at [] f k e = k e
 keeps_at (n ∷ q) f k e = refl
 
-pub kid_changed : (n : ℕ) (g : Tree → Tree) (content : Content) → slice_get (child_elements (change n g content)) n ≡ option_map g (slice_get (child_elements content) n)
+pub kid_changed : (n : ℕ) (g : Tree → Tree) (content : Content) → slice_get (child_elements (change_element n g content)) n ≡ option_map g (slice_get (child_elements content) n)
 kid_changed n g (last t) = refl
 kid_changed zero g (more t m ds ats k rest) = refl
 kid_changed (suc n) g (more t m ds ats k rest) = kid_changed n g rest
 kid_changed n g (comment_node t x rest) = kid_changed n g rest
 
 -- the value of the children under a function that the change preserves
-pub answers_stay : {B : Type 0} (p : Tree → B) (g : Tree → Tree) → ((child_element : Tree) → p (g child_element) ≡ p child_element) → (n : ℕ) (content : Content) → map p (child_elements (change n g content)) ≡ map p (child_elements content)
+pub answers_stay : {B : Type 0} (p : Tree → B) (g : Tree → Tree) → ((child_element : Tree) → p (g child_element) ≡ p child_element) → (n : ℕ) (content : Content) → map p (child_elements (change_element n g content)) ≡ map p (child_elements content)
 answers_stay p g h n (last t) = refl
 answers_stay p g h zero (more t m ds ats k rest) = ap (λ b. b ∷ map p (child_elements rest)) (h (tree_of m ds ats k))
 answers_stay p g h (suc n) (more t m ds ats k rest) = ap (λ bs. p (tree_of m ds ats k) ∷ bs) (answers_stay p g h n rest)
 answers_stay p g h n (comment_node t x rest) = answers_stay p g h n rest
 
-alike : (c : List (List Decl)) (s : Step) (g : Tree → Tree) → KeepsTag g → (n : ℕ) (content : Content) → AreAlike (is_named c s) (is_tested c s) (is_named c s) (is_tested c s) (child_elements content) (child_elements (change n g content))
+alike : (c : List (List Decl)) (s : Step) (g : Tree → Tree) → KeepsStartTag g → (n : ℕ) (content : Content) → HaveSameTestResults (is_named c s) (is_tested c s) (is_named c s) (is_tested c s) (child_elements content) (child_elements (change_element n g content))
 alike c s g k n content = record {
   same_named = sym (answers_stay (is_named c s) g (λ child_element. ap (is_named c s) (k child_element)) n content);
   same_tested = sym (answers_stay (is_tested c s) g (λ child_element. ap (is_tested c s) (k child_element)) n content);
 }
 
-inside_stays : (c : List (List Decl)) (g : Tree → Tree) (child_element : Tree) → KeepsTag g → inside c (g child_element) ≡ inside c child_element
+inside_stays : (c : List (List Decl)) (g : Tree → Tree) (child_element : Tree) → KeepsStartTag g → inside c (g child_element) ≡ inside c child_element
 inside_stays c g child_element k = ap (inside c) (k child_element)
 
 -- what is selected from an element down stays selected
-pub stays_below : (steps : List Step) (c : List (List Decl)) (e : Tree) (q : List ℕ) (f : Tree → Tree) → KeepsTag f → SelectsAmong c (child_elements_of e) steps q → SelectsAmong c (child_elements_of (change_at q f e)) steps q
+pub stays_below : (steps : List Step) (c : List (List Decl)) (e : Tree) (q : List ℕ) (f : Tree → Tree) → KeepsStartTag f → SelectsAmong c (child_elements_of e) steps q → SelectsAmong c (child_elements_of (change_at q f e)) steps q
 stays_below [] c e [] f k h = tt
 stays_below [] c e (n ∷ q) f k h = absurd h
 stays_below (s ∷ steps) c e [] f k h = absurd h
 stays_below (s ∷ steps) c e (n ∷ q) f k h =
     let child_element = h.1.0 in
     let g = change_at q f in (
-      (select_alike (is_named c s) (is_tested c s) (is_named c s) (is_tested c s) s.position (child_elements_of e) (child_elements (change n g e.content)) n (alike c s g (keeps_at q f k) n e.content)).0 h.0,
+      (select_alike (is_named c s) (is_tested c s) (is_named c s) (is_tested c s) s.position (child_elements_of e) (child_elements (change_element n g e.content)) n (alike c s g (keeps_at q f k) n e.content)).0 h.0,
       (
         g child_element,
         kid_changed n g e.content ∙ ap (option_map g) h.1.1,
@@ -64,7 +64,7 @@ root_kid : (root child_element : Tree) → slice_get (root ∷ []) 0 ≡ Some ch
 root_kid root child_element h = sym (same_Some root child_element h)
 
 -- so does the element that the change is made in
-pub stays_selected : (first : Step) (steps : List Step) (root : Tree) (q : List ℕ) (f : Tree → Tree) → KeepsTag f → SelectsPath (first ∷ steps) root q → SelectsPath (first ∷ steps) (change_at q f root) q
+pub stays_selected : (first : Step) (steps : List Step) (root : Tree) (q : List ℕ) (f : Tree → Tree) → KeepsStartTag f → SelectsPath (first ∷ steps) root q → SelectsPath (first ∷ steps) (change_at q f root) q
 stays_selected first steps root q f k h =
     let g = change_at q f in
     let keeps = keeps_at q f k in
@@ -93,12 +93,12 @@ scope_kept (n ∷ q) f k e =
     ap (λ (o : Option (List (List Decl))). e.decls ∷ unwrap_or o [])
     (ap (option_map (scope_at q)) (kid_changed n (change_at q f) e.content) ∙ scope_of_kid (slice_get (child_elements_of e) n) q f (scope_kept q f k))
 
-pub scope_stays : (q : List ℕ) (f : Tree → Tree) → KeepsTag f → (e : Tree) → scope_at q (change_at q f e) ≡ scope_at q e
+pub scope_stays : (q : List ℕ) (f : Tree → Tree) → KeepsStartTag f → (e : Tree) → scope_at q (change_at q f e) ≡ scope_at q e
 scope_stays q f k e = scope_kept q f (λ x. ap (λ (y : Tree). y.decls) (k x)) e
 
 -- ---- the last step, after the change
 
-pub last_step_after : (first : Step) (steps : List Step) (s : Step) (root parent : Tree) (q : List ℕ) (f : Tree → Tree) (i : ℕ) → KeepsTag f → SelectsPath (first ∷ steps) root q → at q root ≡ Some parent
+pub last_step_after : (first : Step) (steps : List Step) (s : Step) (root parent : Tree) (q : List ℕ) (f : Tree → Tree) (i : ℕ) → KeepsStartTag f → SelectsPath (first ∷ steps) root q → at q root ≡ Some parent
     → SelectsPath (first ∷ (steps ++ s ∷ [])) (change_at q f root) (q ++ i ∷ []) ↔ SelectsChild (scope_at q root) s (child_elements_of (f parent)) i
 last_step_after first steps s root parent q f i k sel there =
     let new = change_at q f root in
@@ -130,7 +130,7 @@ lawful_gap first steps s root parent e q gap sel there le =
 
 -- ---- an element replaced by another
 
-pub child_elements-over : (i : ℕ) (e : Tree) (content : Content) → child_elements (change i (λ _. e) content) ≡ set (child_elements content) i e
+pub child_elements-over : (i : ℕ) (e : Tree) (content : Content) → child_elements (change_element i (λ _. e) content) ≡ set (child_elements content) i e
 child_elements-over i e (last t) = refl
 child_elements-over zero e (more t m ds ats k rest) = refl
 child_elements-over (suc i) e (more t m ds ats k rest) = ap (λ l. tree_of m ds ats k ∷ l) (child_elements-over i e rest)

@@ -17,11 +17,11 @@ use Rattle.xml_tree.proofs.TreeScopeLemmas.{scope_at-below}
 use Rattle.node_select.specs.declared.selector.Step.{Step}
 use Rattle.node_select.specs.declared.selector.End.TheVariants as ends
 use Rattle.node_select.specs.declared.selector.Selector.{Selector}
-use Rattle.node_select.specs.Selection.{is_attr, is_named, is_tested, has_end, Found, SelectsChild, SelectsPath}
+use Rattle.node_select.specs.Selection.{is_attr_named, is_named, is_tested, has_end, FindsNode, SelectsChild, SelectsPath}
 use Rattle.node_select.proofs.Along.{last_step_to, one_path}
-use Rattle.edit_rules.specs.Attributes.{FindsValue}
-use Rattle.edit_rules.specs.Tags.{with_attrs}
-use Rattle.edit_rules.specs.inner.Tags.{value_in}
+use Rattle.edit_rules.specs.AttributePuts.{FindsValue}
+use Rattle.edit_rules.specs.StartTags.{with_attrs}
+use Rattle.edit_rules.specs.inner.TestedValues.{tested_value}
 use Rattle.edit_rules.proofs.Places.{scope_at_kid}
 use Rattle.edit_rules.proofs.RemovedElements.{split_end, no_shorter}
 use Rattle.edit_rules.proofs.StaysSelected.{child_elements-over, last_step_after, lawful_over, scope_stays, stays_selected}
@@ -84,23 +84,23 @@ mapped f (Some x) y h = (x, refl)
 -- ---- a value, where the step tests the child
 
 abbrev value_of_name : List (List Decl) → List ℕ → List ℕ → Tree → Option (List ℕ)
-value_of_name c uri local e = option_map (λ a. a.value) (find (is_attr c uri local) e.attrs)
+value_of_name c uri local e = option_map (λ a. a.value) (find (is_attr_named c uri local) e.attrs)
 
-value_to : (c : List (List Decl)) (s : Step) (uri local : List ℕ) (e : Tree) (v : List ℕ) → value_in c s uri local e ≡ Some v → IsTrue (is_tested c s e) × (value_of_name (inside c e) uri local e ≡ Some v)
+value_to : (c : List (List Decl)) (s : Step) (uri local : List ℕ) (e : Tree) (v : List ℕ) → tested_value c s uri local e ≡ Some v → IsTrue (is_tested c s e) × (value_of_name (inside c e) uri local e ≡ Some v)
 value_to c s uri local e v h = by (is_tested c s e) refl h
   where
     by : (b : Bool) → is_tested c s e ≡ b → cond b (value_of_name (inside c e) uri local e) None ≡ Some v → IsTrue (is_tested c s e) × (value_of_name (inside c e) uri local e ≡ Some v)
     by true is h' = (is, h')
     by false is h' = cc
 
-value_from : (c : List (List Decl)) (s : Step) (uri local : List ℕ) (e : Tree) (v : List ℕ) → IsTrue (is_tested c s e) → value_of_name (inside c e) uri local e ≡ Some v → value_in c s uri local e ≡ Some v
+value_from : (c : List (List Decl)) (s : Step) (uri local : List ℕ) (e : Tree) (v : List ℕ) → IsTrue (is_tested c s e) → value_of_name (inside c e) uri local e ≡ Some v → tested_value c s uri local e ≡ Some v
 value_from c s uri local e v t h = ap (λ b. cond b (value_of_name (inside c e) uri local e) None) t ∙ h
 
 -- ---- what is found in the new document, where the steps select there exactly the element with
 -- this tag, which matters only if its parent's step tests it
 
 module _ (all : List Step) (after new : Tree) (p : List ℕ) (c : List (List Decl)) (s : Step) (selected : SelectsPath all after p ↔ IsTrue (is_tested c s new)) (only : (p' : List ℕ) → SelectsPath all after p' → p' ≡ p) (there : at p after ≡ Some new) (scope : scope_at p after ≡ inside c new) where
-  pub finds : (uri local v : List ℕ) → FindsValue all (record { path = p; uri = uri; local = local }) after v ↔ (value_in c s uri local new ≡ Some v)
+  pub finds : (uri local v : List ℕ) → FindsValue all (record { path = p; uri = uri; local = local }) after v ↔ (tested_value c s uri local new ≡ Some v)
   finds uri local v = (
     λ h.
         let same : h.element ≡ new = same_Some _ _ (sym h.there ∙ there) in
@@ -115,7 +115,7 @@ module _ (all : List Step) (after new : Tree) (p : List ℕ) (c : List (List Dec
         },
   )
 
-  pub found_to : (selector : Selector) (uri local : List ℕ) → selector.steps ≡ all → selector.end ≡ ends.Attribute uri local → Found after selector → (v : List ℕ) × (value_in c s uri local new ≡ Some v)
+  pub found_to : (selector : Selector) (uri local : List ℕ) → selector.steps ≡ all → selector.end ≡ ends.Attribute uri local → FindsNode after selector → (v : List ℕ) × (tested_value c s uri local new ≡ Some v)
   found_to selector uri local are ends_so f =
       let sel = subst (λ (l : List Step). SelectsPath l after f.path) are f.selects in
       let here : f.path ≡ p = only f.path sel in
@@ -124,14 +124,14 @@ module _ (all : List Step) (after new : Tree) (p : List ℕ) (c : List (List Dec
       let has = subst (λ (d : List (List Decl)). IsTrue (has_end (ends.Attribute uri local) d new)) in_scope
       (subst (λ (x : Tree). IsTrue (has_end (ends.Attribute uri local) (scope_at f.path after) x)) same
       (subst (λ e. IsTrue (has_end e (scope_at f.path after) f.element)) ends_so f.has)) in
-      let a = any_found (is_attr (inside c new) uri local) new.attrs has in
+      let a = any_found (is_attr_named (inside c new) uri local) new.attrs has in
       (a.0.value, value_from c s uri local new a.0.value (selected.0 (subst (λ (r : List ℕ). SelectsPath all after r) here sel)) (ap (option_map (λ (x : Attr). x.value)) a.1))
 
-  pub found_from : (selector : Selector) (uri local v : List ℕ) → selector.steps ≡ all → selector.end ≡ ends.Attribute uri local → value_in c s uri local new ≡ Some v → Found after selector
+  pub found_from : (selector : Selector) (uri local v : List ℕ) → selector.steps ≡ all → selector.end ≡ ends.Attribute uri local → tested_value c s uri local new ≡ Some v → FindsNode after selector
   found_from selector uri local v are ends_so h =
       let w = value_to c s uri local new v h in
-      let a = mapped (λ (x : Attr). x.value) (find (is_attr (inside c new) uri local) new.attrs) v w.1 in
-      let has = found_any (is_attr (inside c new) uri local) new.attrs a.0 a.1 in record {
+      let a = mapped (λ (x : Attr). x.value) (find (is_attr_named (inside c new) uri local) new.attrs) v w.1 in
+      let has = found_any (is_attr_named (inside c new) uri local) new.attrs a.0 a.1 in record {
         path = p;
         element = new;
         selects = subst (λ (l : List Step). SelectsPath l after p) (sym are) (selected.1 w.0);

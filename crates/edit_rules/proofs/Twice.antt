@@ -11,13 +11,13 @@ use Rattle.doc_names.specs.declared.usages.Usage.{Usage}
 use Rattle.xml_tree.specs.Tree.{Tree, at, child_elements_of, tree_of}
 use Rattle.xml_names.specs.Attributes.{same_name, with_new_value, with_attr}
 use Rattle.xml_names.specs.Attributes as attributes
-use Rattle.xml_tree.specs.Edits.{put_in, put_kid, put_over, set_at, write_attr}
+use Rattle.xml_tree.specs.Edits.{put_in, put_kid, put_over, set_attr_at, set_attr_value}
 use Rattle.xml_tree.specs.TreeScopes.{scope_at}
 use Rattle.xml_names.specs.declared.names.Name.{Name}
 use Rattle.xml_names.specs.declared.names.Attr.{Attr}
 use Rattle.xml_names.specs.declared.names.Decl.{Decl}
 use Rattle.xml_tree.proofs.PlaceLaws.{at-append, at-changed, child_elements-put}
-use Rattle.node_select.specs.Selection.{Found, SelectsPath, is_attr}
+use Rattle.node_select.specs.Selection.{FindsNode, SelectsPath, is_attr_named}
 use Rattle.node_select.specs.declared.selector.Step.{Step}
 use Rattle.node_select.specs.declared.selector.End.{End}
 use Rattle.node_select.specs.declared.selector.End.TheVariants as ends
@@ -32,13 +32,13 @@ use Rattle.edit_ops.specs.declared.change.Change.TheVariants.{Insert, Replace, R
 use Rattle.edit_rules.specs.declared.spot.Spot.{Spot}
 use Rattle.edit_rules.specs.declared.spot.Spot.TheVariants.{Over, Under, Beside, Value}
 use Rattle.usage_docs.specs.declared.validation.Fault.TheVariants.{Invalid}
-use Rattle.edit_rules.specs.declared.refusal.EditRefusal.{EditRefusal}
-use Rattle.edit_rules.specs.declared.refusal.EditRefusal.TheVariants.{CannotInsert, CannotDelete, Faulty}
-use Rattle.edit_rules.specs.Attributes.{FindsValue, IsAttrPlan, IsValuePlan, IsWriting, new_name, written_name}
-use Rattle.edit_rules.specs.Deletions.{FindsNothingAfter, IsDeletePlan, IsPlanFor, IsRemoval}
-use Rattle.edit_rules.specs.LawfulPlaces.{IsLawfulGap, IsLawfulReplacement}
-use Rattle.edit_rules.specs.Plans.{IsJudged, IsTested, by_fault}
-use Rattle.edit_rules.specs.Puts.{FromGap, IsInsertion, IsPutPlan}
+use Rattle.edit_rules.specs.declared.edit_refusal.EditRefusal.{EditRefusal}
+use Rattle.edit_rules.specs.declared.edit_refusal.EditRefusal.TheVariants.{CannotInsert, CannotDelete, Faulty}
+use Rattle.edit_rules.specs.AttributePuts.{FindsValue, IsAttrPlan, IsValuePlan, IsAttributeWrite, new_name, written_name}
+use Rattle.edit_rules.specs.Deletions.{FindsNothingAfter, IsDeletePlan, IsDeletePlanFor, IsElementRemoval}
+use Rattle.edit_rules.specs.LawfulInsertions.{IsLawfulGap, IsLawfulReplacement}
+use Rattle.edit_rules.specs.CheckedChanges.{IsCheckedChange, IsCheckedIfLawful, change_or_fault}
+use Rattle.edit_rules.specs.ElementPuts.{IsResultOfGap, IsElementInsertion, IsPutPlan}
 use Rattle.edit_rules.specs.Spots.{IsSpotOf}
 use Rattle.edit_rules.proofs.Places.{as_exchange, put_again}
 use Rattle.edit_rules.proofs.StaysSelected.{scope_kept}
@@ -54,19 +54,19 @@ same_ok : (a b : Change) → ◌≡◌ {A = Result Change EditRefusal} (Ok a) (O
 same_ok a b h = cc
 
 -- an allowed change makes a document without a fault
-pub judged_ok : (u : Usage) (t : Tree) (change plan : Change) → IsJudged u t change (Ok plan) → (plan ≡ change) × HasFirstFault u (edited t change) None
+pub judged_ok : (u : Usage) (t : Tree) (change plan : Change) → IsCheckedChange u t change (Ok plan) → (plan ≡ change) × HasFirstFault u (edited t change) None
 judged_ok u t change plan h = by h.0 h.1.0 h.1.1
   where
-    by : (fault : Option Fault) → HasFirstFault u (edited t change) fault → ◌≡◌ {A = Result Change EditRefusal} (Ok plan) (by_fault change fault) → (plan ≡ change) × HasFirstFault u (edited t change) None
+    by : (fault : Option Fault) → HasFirstFault u (edited t change) fault → ◌≡◌ {A = Result Change EditRefusal} (Ok plan) (change_or_fault change fault) → (plan ≡ change) × HasFirstFault u (edited t change) None
     by None judged is = (same_ok plan change is, judged)
     by (Some fault) judged is = cc
 
-pub tested_ok : (unlawful : EditRefusal) (lawful : Type 0) (u : Usage) (t : Tree) (change plan : Change) → IsTested unlawful lawful (IsJudged u t change) (Ok plan) → Made lawful u t change plan
+pub tested_ok : (unlawful : EditRefusal) (lawful : Type 0) (u : Usage) (t : Tree) (change plan : Change) → IsCheckedIfLawful unlawful lawful (IsCheckedChange u t change) (Ok plan) → Made lawful u t change plan
 tested_ok unlawful lawful u t change plan (inl h) = let z = h.0 in cc
 tested_ok unlawful lawful u t change plan (inr h) = let j = judged_ok u t change plan h.1 in record { is = j.0; is_lawful = h.0; faultless = j.1 }
 
 -- a lawful change into a document without a fault is allowed
-pub answered : (unlawful : EditRefusal) (lawful : Type 0) (u : Usage) (t : Tree) (change : Change) → lawful → HasFirstFault u (edited t change) None → IsTested unlawful lawful (IsJudged u t change) (Ok change)
+pub answered : (unlawful : EditRefusal) (lawful : Type 0) (u : Usage) (t : Tree) (change : Change) → lawful → HasFirstFault u (edited t change) None → IsCheckedIfLawful unlawful lawful (IsCheckedChange u t change) (Ok change)
 answered unlawful lawful u t change is a = inr (is, (None, (a, refl)))
 
 -- ---- PUT of an element
@@ -95,10 +95,10 @@ in_gap t parent e q gap there le =
     ∙ ap (option_and_then (at (gap ∷ []))) (at-changed q (put_kid gap e) t ∙ ap (option_map (put_kid gap e)) there)
     ∙ ap (option_and_then (at [])) (ap (λ (xs : List Tree). slice_get xs gap) (child_elements-put gap e parent.content le) ∙ get-insert_at (child_elements_of parent) gap e le)
 
-put_under_is : (u : Usage) (t : Tree) (steps : List Step) (q : List ℕ) (e : Tree) (plan : Change) → IsInsertion (record { usage = u; document = t; steps = steps }) q e (Ok plan) → Put u t steps e plan
+put_under_is : (u : Usage) (t : Tree) (steps : List Step) (q : List ℕ) (e : Tree) (plan : Change) → IsElementInsertion (record { usage = u; document = t; steps = steps }) q e (Ok plan) → Put u t steps e plan
 put_under_is u t steps q e plan h = by h.gap h.is_chosen h.then
   where
-    by : (g : Result ℕ EditRefusal) → IsInsertionPlan CannotInsert (Faulty Invalid) (IsLawfulGap steps t e q) (λ j. usage.IsValidDocument u (put_in q j e t)) (length (child_elements_of h.parent) + 1) g → FromGap (λ gap. IsJudged u t (Insert q gap e)) g (Ok plan) → Put u t steps e plan
+    by : (g : Result ℕ EditRefusal) → IsInsertionPlan CannotInsert (Faulty Invalid) (IsLawfulGap steps t e q) (λ j. usage.IsValidDocument u (put_in q j e t)) (length (child_elements_of h.parent) + 1) g → IsResultOfGap (λ gap. IsCheckedChange u t (Insert q gap e)) g (Ok plan) → Put u t steps e plan
     by (Err why) chosen then = let z = then in cc
     by (Ok gap) chosen then =
         let j = judged_ok u t (Insert q gap e) plan then in
@@ -142,7 +142,7 @@ pub record Written (u : Usage) (t : Tree) (steps : List Step) (uri local p value
 pub written_is : (u : Usage) (t : Tree) (steps : List Step) (uri local p value : List ℕ) (plan : Change) → IsValuePlan (record { usage = u; document = t; steps = steps }) (record { path = p; uri = uri; local = local }) value (Ok plan) → Written u t steps uri local p value plan
 written_is u t steps uri local p value plan h = by (written_name (scope_at p t) uri local h.element.attrs) refl h.plan
   where
-    by : (o : Option Name) → written_name (scope_at p t) uri local h.element.attrs ≡ o → IsWriting (record { usage = u; document = t; steps = steps }) (record { path = p; uri = uri; local = local }) value o (Ok plan) → Written u t steps uri local p value plan
+    by : (o : Option Name) → written_name (scope_at p t) uri local h.element.attrs ≡ o → IsAttributeWrite (record { usage = u; document = t; steps = steps }) (record { path = p; uri = uri; local = local }) value o (Ok plan) → Written u t steps uri local p value plan
     by None is then = let z = then in cc
     by (Some name) is then =
         let m = tested_ok CannotInsert (FindsValue steps (record { path = p; uri = uri; local = local }) (edited t (SetAttr p name value)) value) u t (SetAttr p name value) plan then in
@@ -173,9 +173,9 @@ alike_named m n h = by (bytes_eq m.prefix n.prefix) refl (bytes_eq m.local n.loc
 -- the attribute already has its value
 with_twice : (n : Name) (v : List ℕ) (ats : List Attr) → with_attr n v (with_attr n v ats) ≡ with_attr n v ats
 with_twice n v [] = rw (named_alike n) refl
-with_twice n v (x ∷ ats) = by (attributes.is_written_so n x) refl (with_twice n v ats)
+with_twice n v (x ∷ ats) = by (attributes.has_qname n x) refl (with_twice n v ats)
   where
-    by : (b : Bool) → attributes.is_written_so n x ≡ b → with_attr n v (with_attr n v ats) ≡ with_attr n v ats → with_attr n v (with_attr n v (x ∷ ats)) ≡ with_attr n v (x ∷ ats)
+    by : (b : Bool) → attributes.has_qname n x ≡ b → with_attr n v (with_attr n v ats) ≡ with_attr n v ats → with_attr n v (with_attr n v (x ∷ ats)) ≡ with_attr n v (x ∷ ats)
     by true e rest = rw e (rw e refl)
     by false e rest = rw e (rw e (ap (λ (l : List Attr). x ∷ l) rest))
 
@@ -189,7 +189,7 @@ found_passes p (y ∷ xs) x h = by (p y) refl (found_passes p xs x)
 
 module _ (c : List (List Decl)) (uri local : List ℕ) (n : Name) (v : List ℕ) where
   abbrev means : Attr → Bool
-  means = is_attr c uri local
+  means = is_attr_named c uri local
 
   means_by_name : (a b : Attr) → a.name ≡ b.name → means a ≡ means b
   means_by_name a b h = ap (λ (m : Name). means (attr_of m [])) h
@@ -197,9 +197,9 @@ module _ (c : List (List Decl)) (uri local : List ℕ) (n : Name) (v : List ℕ)
   -- an existing one keeps its name
   kept_found : (ats : List Attr) (a : Attr) → find means ats ≡ Some a → a.name ≡ n → (b : Attr) × (find means (with_attr n v ats) ≡ Some b) × (b.name ≡ n)
   kept_found [] a h is = cc
-  kept_found (x ∷ ats) a h is = by (means x) refl (attributes.is_written_so n x) refl (kept_found ats a)
+  kept_found (x ∷ ats) a h is = by (means x) refl (attributes.has_qname n x) refl (kept_found ats a)
     where
-      by : (b : Bool) → means x ≡ b → (d : Bool) → attributes.is_written_so n x ≡ d → (find means ats ≡ Some a → a.name ≡ n → (b : Attr) × (find means (with_attr n v ats) ≡ Some b) × (b.name ≡ n)) → (b : Attr) × (find means (with_attr n v (x ∷ ats)) ≡ Some b) × (b.name ≡ n)
+      by : (b : Bool) → means x ≡ b → (d : Bool) → attributes.has_qname n x ≡ d → (find means ats ≡ Some a → a.name ≡ n → (b : Attr) × (find means (with_attr n v ats) ≡ Some b) × (b.name ≡ n)) → (b : Attr) × (find means (with_attr n v (x ∷ ats)) ≡ Some b) × (b.name ≡ n)
       by true e true d rest = (with_new_value v x, rw d (rw e refl), alike_named x.name n d)
       by true e false d rest =
           let same : x ≡ a = same_Some x a (rw e at h) in
@@ -220,9 +220,9 @@ module _ (c : List (List Decl)) (uri local : List ℕ) (n : Name) (v : List ℕ)
       by : (d : Bool) → means (attr_of n v) ≡ d → b.name ≡ n
       by true e = let same : attr_of n v ≡ b = same_Some (attr_of n v) b (rw e at h) in ap (λ (y : Attr). y.name) (sym same)
       by false e = let z : None ≡ Some b = rw e at h in cc
-  new_found (x ∷ ats) b none h = by (means x) refl (attributes.is_written_so n x) refl (new_found ats b)
+  new_found (x ∷ ats) b none h = by (means x) refl (attributes.has_qname n x) refl (new_found ats b)
     where
-      by : (p : Bool) → means x ≡ p → (d : Bool) → attributes.is_written_so n x ≡ d → (find means ats ≡ None → find means (with_attr n v ats) ≡ Some b → b.name ≡ n) → b.name ≡ n
+      by : (p : Bool) → means x ≡ p → (d : Bool) → attributes.has_qname n x ≡ d → (find means ats ≡ None → find means (with_attr n v ats) ≡ Some b → b.name ≡ n) → b.name ≡ n
       by true e d e' rest = let z : Some x ≡ None = rw e at none in cc
       by false e true d rest =
           let none' : find means ats ≡ None = rw e at none in
@@ -252,26 +252,26 @@ some_of f (Some x) y h = (x, refl)
 -- the second PUT: the attribute is found with its value, and the plan is to write the same value,
 -- which leaves the document unchanged
 pub written_twice : (u : Usage) (t : Tree) (steps : List Step) (uri local p value : List ℕ) (plan : Change) (h : Written u t steps uri local p value plan)
-    → IsValuePlan (record { usage = u; document = set_at p h.name value t; steps = steps }) (record { path = p; uri = uri; local = local }) value (Ok (SetAttr p h.name value)) × (set_at p h.name value (set_at p h.name value t) ≡ set_at p h.name value t)
+    → IsValuePlan (record { usage = u; document = set_attr_at p h.name value t; steps = steps }) (record { path = p; uri = uri; local = local }) value (Ok (SetAttr p h.name value)) × (set_attr_at p h.name value (set_attr_at p h.name value t) ≡ set_attr_at p h.name value t)
 written_twice u t steps uri local p value plan h =
     let n = h.name in
-    let new = set_at p n value t in
-    let made = write_attr n value h.element in
-    let there : at p new ≡ Some made = at-changed p (write_attr n value) t ∙ ap (option_map (write_attr n value)) h.there in
+    let new = set_attr_at p n value t in
+    let made = set_attr_value n value h.element in
+    let there : at p new ≡ Some made = at-changed p (set_attr_value n value) t ∙ ap (option_map (set_attr_value n value)) h.there in
     let same_element : h.finds.element ≡ made = same_Some _ _ (sym h.finds.there ∙ there) in
-    let scope : scope_at p new ≡ scope_at p t = scope_kept p (write_attr n value) (λ e. refl) t in
-    let has = subst (λ (x : Tree). option_map (λ (a : Attr). a.value) (find (is_attr (scope_at p new) uri local) x.attrs) ≡ Some value) same_element h.finds.has in
-    let b = some_of (λ (a : Attr). a.value) (find (is_attr (scope_at p new) uri local) made.attrs) value has in
-    let b_there = subst (λ c. find (is_attr c uri local) made.attrs ≡ Some b.0) scope b.1 in
+    let scope : scope_at p new ≡ scope_at p t = scope_kept p (set_attr_value n value) (λ e. refl) t in
+    let has = subst (λ (x : Tree). option_map (λ (a : Attr). a.value) (find (is_attr_named (scope_at p new) uri local) x.attrs) ≡ Some value) same_element h.finds.has in
+    let b = some_of (λ (a : Attr). a.value) (find (is_attr_named (scope_at p new) uri local) made.attrs) value has in
+    let b_there = subst (λ c. find (is_attr_named c uri local) made.attrs ≡ Some b.0) scope b.1 in
     let name_is = name_twice (scope_at p t) uri local n value h.element.attrs b.0 h.is_name b_there in
     let name_new : written_name (scope_at p new) uri local made.attrs ≡ Some n = ap (λ c. written_name c uri local made.attrs) scope ∙ name_is in
-    let stays_element : write_attr n value made ≡ made = ap (λ (l : List Attr). tree_of made.name made.decls l made.content) (with_twice n value h.element.attrs) in
-    let stays : set_at p n value new ≡ new = as_exchange p (write_attr n value) made new there ∙ ap (λ (x : Tree). put_over p x new) stays_element ∙ put_again p made new there in (
+    let stays_element : set_attr_value n value made ≡ made = ap (λ (l : List Attr). tree_of made.name made.decls l made.content) (with_twice n value h.element.attrs) in
+    let stays : set_attr_at p n value new ≡ new = as_exchange p (set_attr_value n value) made new there ∙ ap (λ (x : Tree). put_over p x new) stays_element ∙ put_again p made new there in (
       record {
         element = made;
         there = there;
         plan =
-            subst (λ (o : Option Name). IsWriting (record { usage = u; document = new; steps = steps }) (record { path = p; uri = uri; local = local }) value o (Ok (SetAttr p n value))) (sym name_new)
+            subst (λ (o : Option Name). IsAttributeWrite (record { usage = u; document = new; steps = steps }) (record { path = p; uri = uri; local = local }) value o (Ok (SetAttr p n value))) (sym name_new)
             (answered CannotInsert (FindsValue steps (record { path = p; uri = uri; local = local }) (edited new (SetAttr p n value)) value) u new (SetAttr p n value)
             (subst (λ (x : Tree). FindsValue steps (record { path = p; uri = uri; local = local }) x value) (sym stays) h.finds)
             (subst (λ (x : Tree). HasFirstFault u x None) (sym stays) h.faultless));
@@ -283,17 +283,17 @@ written_twice u t steps uri local p value plan h =
 
 -- the address finds nothing in the new document, which has no fault
 pub record Deleted (u : Usage) (t : Tree) (selector : Selector) (plan : Change) : Type 0 where
-  pub finds_nothing : Found (edited t plan) selector → ⊥
+  pub finds_nothing : FindsNode (edited t plan) selector → ⊥
   pub faultless : HasFirstFault u (edited t plan) None
 
 deleted_by : (u : Usage) (t : Tree) (selector : Selector) (change plan : Change) → Made (FindsNothingAfter selector t change) u t change plan → Deleted u t selector plan
 deleted_by u t selector change plan m = subst (λ (x : Change). Deleted u t selector x) (sym m.is) (record { finds_nothing = m.is_lawful; faultless = m.faultless })
 
-removed_is : (u : Usage) (t : Tree) (selector : Selector) (p : List ℕ) (plan : Change) → IsRemoval (record { usage = u; document = t; selector = selector }) p (Ok plan) → Deleted u t selector plan
+removed_is : (u : Usage) (t : Tree) (selector : Selector) (p : List ℕ) (plan : Change) → IsElementRemoval (record { usage = u; document = t; selector = selector }) p (Ok plan) → Deleted u t selector plan
 removed_is u t selector [] plan h = cc
 removed_is u t selector (n ∷ p) plan h = deleted_by u t selector (Remove (n ∷ p)) plan (tested_ok CannotDelete (FindsNothingAfter selector t (Remove (n ∷ p))) u t (Remove (n ∷ p)) plan h)
 
-plan_for_is : (u : Usage) (t : Tree) (selector : Selector) (p : List ℕ) (e : Tree) (end : End) (plan : Change) → IsPlanFor (record { usage = u; document = t; selector = selector }) p e end (Ok plan) → Deleted u t selector plan
+plan_for_is : (u : Usage) (t : Tree) (selector : Selector) (p : List ℕ) (e : Tree) (end : End) (plan : Change) → IsDeletePlanFor (record { usage = u; document = t; selector = selector }) p e end (Ok plan) → Deleted u t selector plan
 plan_for_is u t selector p e ends.Element plan h = removed_is u t selector p plan h
 plan_for_is u t selector p e (ends.Attribute uri local) plan h =
     let change = DropAttr p h.attr.name in

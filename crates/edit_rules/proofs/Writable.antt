@@ -6,30 +6,30 @@ use Rattle.std.specs.List.{list_all}
 use Rattle.std.proofs.Common.{◌≡◌, ◌⊎◌, inl, inr, ℕ, Bool, true, false, List, [], ◌∷◌, ◌++◌, length, Option, Some, None, IsTrue, Result, Ok, Err, refl, sym, ap, ◌∙◌, subst, append_assoc}
 use Rattle.std.proofs.lemmas.List.{append-nil}
 use Rattle.std.proofs.lemmas.Option.{same_Some}
-use Rattle.xml_grammar.specs.Rules.{AllPass, Event, Mark, Rule, Split, keeping_second, empty, with_value_marks, only, optional, sequence, map_rule, word}
+use Rattle.xml_grammar.specs.Rules.{AllPass, Event, Mark, Rule, Split, keep_second, empty_text, with_value_marks, filter_rule, optional, sequence, map_rule, word}
 use Rattle.xml_grammar.specs.TextReading.{Stop}
-use Rattle.xml_grammar.specs.Answers.{Answers, IsCalm}
+use Rattle.xml_grammar.specs.ParseResults.{IsParseResult, HasNoFault}
 use Rattle.xml_names.specs.Characters.{is_name, is_name_char, is_name_start}
-use Rattle.xml_names.specs.Scopes.{bound, declared_uri, joined, some_text, xml_prefix, xml_uri, xmlns_prefix}
+use Rattle.xml_names.specs.Scopes.{bound_uri, declared_uri, scope_decls, non_empty_uri, xml_prefix, xml_uri, xmlns_prefix}
 use Rattle.xml_names.specs.declared.names.Name.{Name}
 use Rattle.xml_names.specs.declared.names.Decl.{Decl}
-use Rattle.xml_tokens.specs.readers.Words.{colon}
+use Rattle.xml_tokens.specs.readers.Literals.{colon}
 use Rattle.xml_tokens.specs.Values.{qname_of}
 use Rattle.xml_tokens.specs.Tokens.{name, qname}
 use Rattle.xml_tokens.specs.declared.fault_kind.FaultKind.{FaultKind}
 use Rattle.xml_tokens.specs.declared.fault_kind.FaultKind.TheVariants.{Unbound}
 use Rattle.xml_tokens.proofs.CharacterTests.{pass_all}
-use Rattle.node_select.specs.Faults.{IsSelectorAnswer, marks, selector_result as told}
-use Rattle.node_select.specs.Grammar.{IsUnbound, attribute, end, is_attribute_name, selector, steps}
+use Rattle.node_select.specs.Faults.{IsSelectorAnswer, fault_ranking, selector_result as told}
+use Rattle.node_select.specs.Grammar.{MarksUnboundName, attribute, end, is_attribute_name, selector, steps}
 use Rattle.node_select.specs.readers.SelectorValues.{end_or_element}
-use Rattle.node_select.specs.readers.Words.{at_sign, namespaces, slash}
-use Rattle.node_select.specs.Names.{attr_uri, is_unbound, prefix_uri}
+use Rattle.node_select.specs.readers.Literals.{at_sign, namespaces, slash}
+use Rattle.node_select.specs.Names.{attr_uri, has_unbound_prefix, prefix_uri}
 use Rattle.node_select.specs.declared.fault.SelectorFault.{SelectorFault}
 use Rattle.node_select.specs.declared.selector.End.{End}
 use Rattle.node_select.specs.declared.selector.End.TheVariants as ends
 use Rattle.node_select.specs.declared.selector.Selector.{Selector}
 use Rattle.node_select.proofs.JudgedNames.{qname_long}
-use Rattle.edit_rules.specs.Attributes.{IsWritable}
+use Rattle.edit_rules.specs.AttributePuts.{IsWritable}
 
 -- ---- the grammar of the local name
 
@@ -40,7 +40,7 @@ both_true false b p q = cc
 name_is : (u l : List ℕ) → name.Spells u l → is_name l ≡ true
 name_is u l m = ap is_name m.2 ∙ both_true (is_name_start m.0.0) (list_all is_name_char m.0.1) m.1.front_is.0 (pass_all is_name_char m.0.1 (subst (AllPass is_name_char) (sym m.1.back_is.1) m.1.back_is.0))
 
-local_by_rest : (f v : List ℕ) (o : Option (List ℕ)) → is_name f ≡ true → (optional (keeping_second (word {Kind = FaultKind} colon) name)).Spells v o → is_name (qname_of (f, o)).local ≡ true
+local_by_rest : (f v : List ℕ) (o : Option (List ℕ)) → is_name f ≡ true → (optional (keep_second (word {Kind = FaultKind} colon) name)).Spells v o → is_name (qname_of (f, o)).local ≡ true
 local_by_rest f v o h (inl r) =
     subst (λ (z : Option (List ℕ)). is_name (qname_of (f, z)).local ≡ true) (sym r.2) (ap is_name r.1.2 ∙ name_is r.1.1.back r.1.0.1 r.1.1.back_is)
 local_by_rest f v o h (inr r) = subst (λ (z : Option (List ℕ)). is_name (qname_of (f, z)).local ≡ true) (sym r.1) h
@@ -61,7 +61,7 @@ record EndsIn (bindings : List Decl) (uri local : List ℕ) (Meets : Event Fault
   names : is_attribute_name name ≡ true
   uri_is : attr_uri bindings name ≡ uri
   local_is : name.local ≡ local
-  met : (kind : FaultKind) (back : ℕ) → IsUnbound bindings name kind back → Meets (Mark kind back) text
+  met : (kind : FaultKind) (back : ℕ) → MarksUnboundName bindings name kind back → Meets (Mark kind back) text
 
 module _ (bindings : List Decl) (default uri local : List ℕ) where
   abbrev EndsSo : {A : Type 0} → Rule FaultKind A → List ℕ → Type 0
@@ -99,7 +99,7 @@ module _ (bindings : List Decl) (default uri local : List ℕ) where
   at_attribute : (text : List ℕ) (n : Name) → (attribute bindings default).Spells text n → attr_uri bindings n ≡ uri → n.local ≡ local → EndsSo (attribute bindings default) text
   at_attribute text n m same_uri same_local =
       let q = m.1.back_is in
-      in_sequence (word at_sign) (λ _. with_value_marks (IsUnbound bindings) (only is_attribute_name qname)) tt text (record {
+      in_sequence (word at_sign) (λ _. with_value_marks (MarksUnboundName bindings) (filter_rule is_attribute_name qname)) tt text (record {
         front = m.1.front;
         back = m.1.back;
         joined = m.1.joined;
@@ -126,12 +126,12 @@ module _ (bindings : List Decl) (default uri local : List ℕ) where
   at_end text e (inr m) is = let none : ends.Namespaces ≡ ends.Attribute uri local = sym m.2 ∙ is in cc
 
   abbrev tail : Rule FaultKind (Option End)
-  tail = optional (keeping_second (word slash) (end bindings default))
+  tail = optional (keep_second (word slash) (end bindings default))
 
   at_tail : (text : List ℕ) (o : Option End) → tail.Spells text o → end_or_element o ≡ ends.Attribute uri local → EndsSo tail text
   at_tail text o (inl m) is =
       let same : m.1.0.1 ≡ ends.Attribute uri local = sym m.1.2 ∙ sym (ap end_or_element m.2) ∙ is in
-      in_left (keeping_second (word slash) (end bindings default)).Meets (empty {Kind = FaultKind} {A = Option End} None).Meets text
+      in_left (keep_second (word slash) (end bindings default)).Meets (empty_text {Kind = FaultKind} {A = Option End} None).Meets text
       (in_sequence (word slash) (λ _. end bindings default) tt text (record {
         front = m.1.1.front;
         back = m.1.1.back;
@@ -155,7 +155,7 @@ module _ (bindings : List Decl) (default uri local : List ℕ) where
 
 -- ---- the meaning of its prefix
 
-bound_some : (o : Option (List ℕ)) (w : List ℕ) → some_text o ≡ Some w → w ≢ []
+bound_some : (o : Option (List ℕ)) (w : List ℕ) → non_empty_uri o ≡ Some w → w ≢ []
 bound_some None w h = cc
 bound_some (Some []) w h = cc
 bound_some (Some (c ∷ cs)) w h = λ none. (let z : c ∷ cs ≡ [] = same_Some (c ∷ cs) w h ∙ none in cc)
@@ -164,12 +164,12 @@ xml_some : xml_uri ≢ []
 unfolding xml_uri
 xml_some h = cc
 
-is_bound_some : (c : List (List Decl)) (p w : List ℕ) → bound c p ≡ Some w → w ≢ []
+is_bound_some : (c : List (List Decl)) (p w : List ℕ) → bound_uri c p ≡ Some w → w ≢ []
 is_bound_some c p w h = by (bytes_eq p xml_prefix) refl
   where
     by : (b : Bool) → bytes_eq p xml_prefix ≡ b → w ≢ []
     by true e = λ none. xml_some (same_Some xml_uri w (rw e at h) ∙ none)
-    by false e = bound_some (declared_uri (joined c) p) w (rw e at h)
+    by false e = bound_some (declared_uri (scope_decls c) p) w (rw e at h)
 
 prefix_some : (bindings : List Decl) (p w : List ℕ) → prefix_uri bindings p ≡ Some w → w ≢ []
 prefix_some bindings p w h = by (bytes_eq p xmlns_prefix) refl
@@ -179,7 +179,7 @@ prefix_some bindings p w h = by (bytes_eq p xmlns_prefix) refl
     by false e = is_bound_some (bindings ∷ []) p w (rw e at h)
 
 -- a name that isn't unbound and is in no namespace has no prefix
-no_prefix : (bindings : List Decl) (n : Name) → is_unbound bindings n ≡ false → attr_uri bindings n ≡ [] → bytes_eq n.prefix [] ≡ true
+no_prefix : (bindings : List Decl) (n : Name) → has_unbound_prefix bindings n ≡ false → attr_uri bindings n ≡ [] → bytes_eq n.prefix [] ≡ true
 no_prefix bindings n is none = by (bytes_eq n.prefix []) refl (prefix_uri bindings n.prefix) refl
   where
     by : (b : Bool) → bytes_eq n.prefix [] ≡ b → (o : Option (List ℕ)) → prefix_uri bindings n.prefix ≡ o → bytes_eq n.prefix [] ≡ true
@@ -193,10 +193,10 @@ not_xmlns n e names same = let d = (bytes_decides n.local xmlns_prefix).1 same i
 -- ---- the result for a text
 
 -- where a text has no mark, the name that it ends in is bound
-bound_name : (bindings : List Decl) (uri local : List ℕ) {A : Type 0} (r : Rule FaultKind A) (text : List ℕ) → (e : EndsIn bindings uri local r.Meets text) → IsCalm (marks true) r text → is_unbound bindings e.name ≡ false
-bound_name bindings uri local r text e calm = by (is_unbound bindings e.name) refl
+bound_name : (bindings : List Decl) (uri local : List ℕ) {A : Type 0} (r : Rule FaultKind A) (text : List ℕ) → (e : EndsIn bindings uri local r.Meets text) → HasNoFault (fault_ranking true) r text → has_unbound_prefix bindings e.name ≡ false
+bound_name bindings uri local r text e calm = by (has_unbound_prefix bindings e.name) refl
   where
-    by : (b : Bool) → is_unbound bindings e.name ≡ b → is_unbound bindings e.name ≡ false
+    by : (b : Bool) → has_unbound_prefix bindings e.name ≡ b → has_unbound_prefix bindings e.name ≡ false
     by false f = f
     by true f = absurd (calm Unbound e.written_so refl (record {
       before = e.before;
@@ -207,13 +207,13 @@ bound_name bindings uri local r text e calm = by (is_unbound bindings e.name) re
       met = subst (λ (z : List ℕ). r.Meets (Mark Unbound (length e.written_so)) z) e.joined (e.met Unbound (length e.written_so) (f, refl, sym (qname_long e.written_so e.name e.spelled)));
     }))
 
-by_name : (bindings : List Decl) (uri local : List ℕ) {A : Type 0} (r : Rule FaultKind A) (text : List ℕ) → EndsIn bindings uri local r.Meets text → IsCalm (marks true) r text → IsWritable uri local
+by_name : (bindings : List Decl) (uri local : List ℕ) {A : Type 0} (r : Rule FaultKind A) (text : List ℕ) → EndsIn bindings uri local r.Meets text → HasNoFault (fault_ranking true) r text → IsWritable uri local
 by_name bindings uri local r text e calm = record {
   is_ncname = subst (λ (x : List ℕ). IsTrue (is_name x)) e.local_is (local_is e.written_so e.name e.spelled);
   is_attribute = λ none same. not_xmlns e.name (no_prefix bindings e.name (bound_name bindings uri local r text e calm) (e.uri_is ∙ none)) e.names (e.local_is ∙ same);
 }
 
-by_names : (bindings : List Decl) (default text : List ℕ) (form names : Result Selector (Stop FaultKind)) (s : Selector) (uri local : List ℕ) → Answers (marks true) (selector bindings default) (chars text) names
+by_names : (bindings : List Decl) (default text : List ℕ) (form names : Result Selector (Stop FaultKind)) (s : Selector) (uri local : List ℕ) → IsParseResult (fault_ranking true) (selector bindings default) (chars text) names
     → ◌≡◌ {A = Result Selector SelectorFault} (Ok s) (told text form names) → s.end ≡ ends.Attribute uri local → IsWritable uri local
 by_names bindings default text (Err stop) names s uri local h is is_end = cc
 by_names bindings default text (Ok value) (Err stop) s uri local h is is_end = cc

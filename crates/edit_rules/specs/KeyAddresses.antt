@@ -4,9 +4,9 @@ use Rattle.std.specs.Prelude.{◌≡◌, ℕ, List, [], ◌∷◌, None, Some, s
 use Rattle.std.specs.List.{AllByRecursion}
 use Rattle.xml_tree.specs.Tree.{Tree, child_elements_of}
 use Rattle.xml_names.specs.ExpandedNames.{element_name}
-use Rattle.xml_tree.specs.Proper.{ProperIn}
+use Rattle.xml_tree.specs.Proper.{IsProperTree}
 use Rattle.xml_tree.specs.TreeScopes.{inside}
-use Rattle.node_select.specs.Names.{uri_of}
+use Rattle.node_select.specs.Names.{uri_or_empty}
 use Rattle.node_select.specs.declared.selector.NameTest.TheVariants.{Named}
 use Rattle.node_select.specs.declared.selector.Step.{Step}
 use Rattle.node_select.specs.declared.selector.End.TheVariants.{Element}
@@ -14,8 +14,8 @@ use Rattle.node_select.specs.declared.selector.Selector.{Selector}
 use Rattle.doc_names.specs.declared.usages.Usage.{Usage}
 use Rattle.usage_docs.specs.declared.schema_table.ElementKind.{ElementKind}
 use Rattle.usage_docs.specs.declared.schema_table.Key.{Key}
-use Rattle.usage_docs.specs.SchemaTable.{Scope, kind_by, kind_of, root_kind}
-use Rattle.usage_docs.specs.Keys.{key_of, word}
+use Rattle.usage_docs.specs.SchemaTable.{Scope, kind_by_name, kind_of, root_kind}
+use Rattle.usage_docs.specs.KeyAttributes.{key_of, attribute_name}
 use Rattle.usage_docs.specs.UniqueKeys.{HasUniqueKeys}
 
 -- ---- the steps
@@ -30,16 +30,16 @@ pub record IsKeyStep (step : Step) : Type 0 where
   pub local : List ℕ
   pub value : List ℕ
   pub by_name : step.name ≡ Named uri local
-  pub of_kind : kind_by row uri local ≡ Some kind
+  pub of_kind : kind_by_name row uri local ≡ Some kind
   pub of_key : key_of kind ≡ Some key
   pub anywhere : step.position ≡ None
-  pub by_key : step.test ≡ Some (record { uri = []; local = word key; value = value })
+  pub by_key : step.test ≡ Some (record { uri = []; local = attribute_name key; value = value })
 
 -- the step that is the root's name
 abbrev pub root_step : Tree → Step
 root_step t =
     record {
-      name = Named (uri_of (element_name (t.decls ∷ []) t.name)) t.name.local;
+      name = Named (uri_or_empty (element_name (t.decls ∷ []) t.name)) t.name.local;
       position = None;
       test = None;
     }
@@ -53,14 +53,14 @@ AreKeySteps t (first ∷ later) = (first ≡ root_step t) × AllByRecursion IsKe
 
 -- among the children of an element of this kind, in the scope inside it: each element on the path
 -- has a kind
-abbrev pub HaveKinds : ElementKind → Scope → List Tree → List ℕ → Type 0
-HaveKinds row c child_elements [] = Unit {0}
-HaveKinds row c child_elements (i ∷ p) =
+abbrev pub HaveKindsOnPath : ElementKind → Scope → List Tree → List ℕ → Type 0
+HaveKindsOnPath row c child_elements [] = Unit {0}
+HaveKindsOnPath row c child_elements (i ∷ p) =
     (child_element : Tree)
     × ((kind : ElementKind)
     × ((slice_get child_elements i ≡ Some child_element)
     × (kind_of row (inside c child_element) child_element.name ≡ Some kind)
-    × HaveKinds kind (inside c child_element) (child_elements_of child_element) p))
+    × HaveKindsOnPath kind (inside c child_element) (child_elements_of child_element) p))
 
 -- ---- key addresses
 
@@ -69,11 +69,11 @@ HaveKinds row c child_elements (i ∷ p) =
 pub record IsKeyAddressOf (u : Usage) (t : Tree) (selector : Selector) (p : List ℕ) : Type 0 where
   pub ends : selector.end ≡ Element
   pub steps : AreKeySteps t selector.steps
-  pub kinds : HaveKinds (root_kind u) (t.decls ∷ []) (child_elements_of t) p
+  pub kinds : HaveKindsOnPath (root_kind u) (t.decls ∷ []) (child_elements_of t) p
 
 -- ---- documents whose key addresses are stable
 
 -- a proper document in which keys are distinct among siblings
-pub record IsKeyed (u : Usage) (t : Tree) : Type 0 where
+pub record IsProperWithUniqueKeys (u : Usage) (t : Tree) : Type 0 where
   pub unique : HasUniqueKeys u t
-  pub proper : ProperIn [] t
+  pub proper : IsProperTree [] t

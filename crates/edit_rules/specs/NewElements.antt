@@ -5,9 +5,9 @@ use Rattle.xml_tree.specs.TreeScopes.{inside}
 use Rattle.usage_docs.specs.declared.schema_table.ElementKind.{ElementKind}
 use Rattle.usage_docs.specs.declared.schema_table.Key.{Key}
 use Rattle.usage_docs.specs.SchemaTable.{Scope}
-use Rattle.usage_docs.specs.Keys.{key_of}
-use Rattle.usage_docs.specs.UniqueKeys.{Mark, mark_of, mark_at, RepeatsAt}
-use Rattle.usage_docs.specs.Kinds.{kind_of_child}
+use Rattle.usage_docs.specs.KeyAttributes.{key_of}
+use Rattle.usage_docs.specs.UniqueKeys.{SiblingKey, sibling_key_of, sibling_key_at, RepeatsKeyAt}
+use Rattle.usage_docs.specs.ElementKinds.{kind_of_child}
 
 -- the siblings of a new element, with the element kind of their parent and the scope inside it
 pub record Siblings : Type 0 where
@@ -17,9 +17,9 @@ pub record Siblings : Type 0 where
 
 -- the i-th sibling has the kind and the key of the new element
 pub record IsDuplicate (siblings : Siblings) (new : Tree) (i : ℕ) (key : Key) : Type 0 where
-  pub shared : Mark
-  pub that : mark_at siblings.kind siblings.scope siblings.elements i ≡ Some shared
-  pub of_new : mark_of siblings.kind siblings.scope new ≡ Some shared
+  pub shared : SiblingKey
+  pub that : sibling_key_at siblings.kind siblings.scope siblings.elements i ≡ Some shared
+  pub of_new : sibling_key_of siblings.kind siblings.scope new ≡ Some shared
   pub by_key : key_of shared.kind ≡ Some key
 
 -- an element in the new one, at this path from it, repeats a sibling's key
@@ -27,15 +27,15 @@ abbrev pub ClashesInside : ElementKind → Scope → Tree → List ℕ → Key �
 ClashesInside row c new p key =
     (kind : ElementKind)
     × ((kind_of_child row c new ≡ Some kind)
-    × RepeatsAt kind (inside c new) (child_elements_of new) p key)
+    × RepeatsKeyAt kind (inside c new) (child_elements_of new) p key)
 
 -- no two children of one element in the new one have the same kind and equal keys
-abbrev pub UniqueInside : ElementKind → Scope → Tree → Type 0
-UniqueInside row c new = (p : List ℕ) (key : Key) → ClashesInside row c new p key → ⊥
+abbrev pub HasUniqueKeysInside : ElementKind → Scope → Tree → Type 0
+HasUniqueKeysInside row c new = (p : List ℕ) (key : Key) → ClashesInside row c new p key → ⊥
 
 -- no sibling has the kind and the key of the new one
-abbrev pub NoDuplicate : Siblings → Tree → Type 0
-NoDuplicate siblings new = (i : ℕ) (key : Key) → IsDuplicate siblings new i key → ⊥
+abbrev pub HasNoDuplicate : Siblings → Tree → Type 0
+HasNoDuplicate siblings new = (i : ℕ) (key : Key) → IsDuplicate siblings new i key → ⊥
 
 -- where clashes come from once the new element is in the gap: it repeats the key of a sibling
 -- before it; or an element in it repeats a sibling's key; or a sibling after it, whose number is

@@ -1,2 +1,2 @@
 -- Definitions for private functions and proofs; no public clause needs them.
-pub mod Tags
+pub mod TestedValues

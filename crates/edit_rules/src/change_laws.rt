@@ -13,25 +13,28 @@ ghost use Rattle.xml_tree.specs.declared.tree.Node.TheVariants.{Elem};
 ghost use Rattle.node_select.specs.Selection.{SelectsPath, is_named, is_tested};
 ghost use Rattle.node_select.specs.declared.selector.Step.{Step};
 ghost use Rattle.usage_docs.specs.declared.schema_table.ElementKind.{ElementKind};
-ghost use Rattle.usage_docs.specs.declared.keys.Clash.{Clash};
-ghost use Rattle.usage_docs.specs.readers.Parts.{follows};
-ghost use Rattle.usage_docs.specs.Validity.{IsValidDocument, ValidChild};
-ghost use Rattle.usage_docs.specs.readers.Gaps.{FollowsGap, part_after, part_before, part_of_child};
-ghost use Rattle.usage_docs.specs.Forms.{MeetsConstraints, IsNodeFormed};
+ghost use Rattle.usage_docs.specs.declared.key_repeats.Clash.{Clash};
+ghost use Rattle.usage_docs.specs.readers.ContentParts.{may_follow};
+ghost use Rattle.usage_docs.specs.Validity.{IsValidDocument, IsValidChild};
+ghost use Rattle.usage_docs.specs.readers.NeighbourParts.{FitsGapByParts, part_after, part_before};
+ghost use Rattle.usage_docs.specs.readers.NeighbourParts.{part_of_child};
+ghost use Rattle.usage_docs.specs.ReferenceForms.{MeetsConstraints, IsFormedNode};
 ghost use Rattle.usage_docs.specs.UniqueKeys.{IsFirstClash, HasUniqueKeys};
-ghost use Rattle.usage_docs.specs.readers.Siblings.{IsFirst};
-ghost use Rattle.edit_rules.specs.LawfulPlaces.{KeepsTag, IsLawfulGap, IsLawfulReplacement};
-ghost use Rattle.usage_docs.specs.Kinds.{kind_at};
-ghost use Rattle.edit_rules.specs.Removals.{ClosesUp, StillSelects};
-ghost use Rattle.edit_rules.specs.NewElements.{ClashesBeside, NoDuplicate, UniqueInside};
-ghost use Rattle.edit_rules.specs.Tags.{AttrsFormed, AttrsPass, tag_with, with_attrs};
+ghost use Rattle.usage_docs.specs.readers.SiblingElements.{IsFirstInOrder};
+ghost use Rattle.edit_rules.specs.LawfulInsertions.{KeepsStartTag, IsLawfulGap};
+ghost use Rattle.edit_rules.specs.LawfulInsertions.{IsLawfulReplacement};
+ghost use Rattle.usage_docs.specs.ElementKinds.{kind_at};
+ghost use Rattle.edit_rules.specs.Removals.{NeighboursMayMeet, StillSelectsChild};
+ghost use Rattle.edit_rules.specs.NewElements.{ClashesBeside, HasNoDuplicate, HasUniqueKeysInside};
+ghost use Rattle.edit_rules.specs.StartTags.{HasFormedAttrs, AreAttrsAllowed, start_tag_with};
+ghost use Rattle.edit_rules.specs.StartTags.{with_attrs};
 
 /// A change inside the element that steps select, which leaves its name, declarations and
 /// attributes, doesn't change that they select it.
 pub fn selection_stays_above_a_change()
     ensures selected_still { (first : Step) (steps : List Step) (t : Tree) (q : List ℕ)
         (f : Tree → Tree)
-        → KeepsTag f → SelectsPath (first ∷ steps) t q
+        → KeepsStartTag f → SelectsPath (first ∷ steps) t q
         → SelectsPath (first ∷ steps) (change_at q f t) q }
 {}
 
@@ -62,21 +65,22 @@ pub fn validity_beside_a_change()
     ensures on_insertion { (u : Usage) (t parent new : Tree) (q : List ℕ) (gap : ℕ)
         → at q t ≡ Some parent → gap ≤ length (child_elements_of parent) → IsValidDocument u t
         → IsValidDocument u (put_in q gap new t)
-        ↔ ForSome (kind_at u t q) (λ kind. FollowsGap kind (scope_at q t) parent.content new gap) }
+        ↔ ForSome (kind_at u t q)
+        (λ kind. FitsGapByParts kind (scope_at q t) parent.content new gap) }
     ensures on_replacement { (u : Usage) (t parent child_element new : Tree) (q : List ℕ) (i : ℕ)
         → at q t ≡ Some parent → slice_get (child_elements_of parent) i ≡ Some child_element
         → IsValidDocument u t
         → IsValidDocument u (put_over (q ++ i ∷ []) new t)
-        ↔ ForSome (kind_at u t q) (λ kind. ValidChild kind (scope_at q t) new
-        × IsTrue (follows kind (part_before kind (scope_at q t) 0 i parent.content)
+        ↔ ForSome (kind_at u t q) (λ kind. IsValidChild kind (scope_at q t) new
+        × IsTrue (may_follow kind (part_before kind (scope_at q t) 0 i parent.content)
         (part_of_child kind (scope_at q t) new))
-        × IsTrue (follows kind (part_of_child kind (scope_at q t) new)
+        × IsTrue (may_follow kind (part_of_child kind (scope_at q t) new)
         (part_after kind (scope_at q t) (suc i) parent.content))) }
     ensures on_removal { (u : Usage) (t parent child_element : Tree) (q : List ℕ) (i : ℕ)
         → at q t ≡ Some parent → slice_get (child_elements_of parent) i ≡ Some child_element
         → IsValidDocument u t
         → IsValidDocument u (take_in q i t)
-        ↔ ClosesUp (kind_at u t q) (scope_at q t) parent.content i }
+        ↔ NeighboursMayMeet (kind_at u t q) (scope_at q t) parent.content i }
 {}
 
 /// A document with unique keys and a new element has unique keys exactly when the element has
@@ -88,14 +92,14 @@ pub fn clashes_beside_a_change()
         → at q t ≡ Some parent → gap ≤ length (child_elements_of parent) → HasUniqueKeys u t
         → HasUniqueKeys u (put_in q gap new t)
         ↔ ForSome (kind_at u t q)
-        (λ kind. NoDuplicate
+        (λ kind. HasNoDuplicate
         (record { kind = kind; scope = scope_at q t; elements = child_elements_of parent }) new
-        × UniqueInside kind (scope_at q t) new) }
+        × HasUniqueKeysInside kind (scope_at q t) new) }
     ensures insertion_first { (u : Usage) (t parent new : Tree) (q : List ℕ) (gap : ℕ)
         (kind : ElementKind) (found : Option Clash)
         → at q t ≡ Some parent → gap ≤ length (child_elements_of parent) → HasUniqueKeys u t
         → kind_at u t q ≡ Some kind
-        → IsFirst (ClashesBeside
+        → IsFirstInOrder (ClashesBeside
         (record { kind = kind; scope = scope_at q t; elements = child_elements_of parent }) new
         gap) q found
         ↔ IsFirstClash u (put_in q gap new t) found }
@@ -104,19 +108,19 @@ pub fn clashes_beside_a_change()
         → HasUniqueKeys u t
         → HasUniqueKeys u (put_over (q ++ i ∷ []) new t)
         ↔ ForSome (kind_at u t q)
-        (λ kind. NoDuplicate
+        (λ kind. HasNoDuplicate
         (record {
           kind = kind;
           scope = scope_at q t;
           elements = remove (child_elements_of parent) i;
         })
         new
-        × UniqueInside kind (scope_at q t) new) }
+        × HasUniqueKeysInside kind (scope_at q t) new) }
     ensures replacement_first { (u : Usage) (t parent child_element new : Tree) (q : List ℕ) (i : ℕ)
         (kind : ElementKind) (found : Option Clash)
         → at q t ≡ Some parent → slice_get (child_elements_of parent) i ≡ Some child_element
         → HasUniqueKeys u t → kind_at u t q ≡ Some kind
-        → IsFirst (ClashesBeside
+        → IsFirstInOrder (ClashesBeside
         (record {
           kind = kind;
           scope = scope_at q t;
@@ -135,12 +139,12 @@ pub fn constraints_beside_a_change()
     ensures on_insertion { (u : Usage) (t parent new : Tree) (q : List ℕ) (gap : ℕ)
         → at q t ≡ Some parent → gap ≤ length (child_elements_of parent) → MeetsConstraints u t
         → MeetsConstraints u (put_in q gap new t)
-        ↔ ForSome (kind_at u t q) (λ kind. IsNodeFormed kind (scope_at q t) (Elem new)) }
+        ↔ ForSome (kind_at u t q) (λ kind. IsFormedNode kind (scope_at q t) (Elem new)) }
     ensures on_replacement { (u : Usage) (t parent child_element new : Tree) (q : List ℕ) (i : ℕ)
         → at q t ≡ Some parent → slice_get (child_elements_of parent) i ≡ Some child_element
         → MeetsConstraints u t
         → MeetsConstraints u (put_over (q ++ i ∷ []) new t)
-        ↔ ForSome (kind_at u t q) (λ kind. IsNodeFormed kind (scope_at q t) (Elem new)) }
+        ↔ ForSome (kind_at u t q) (λ kind. IsFormedNode kind (scope_at q t) (Elem new)) }
     ensures on_removal { (u : Usage) (t parent : Tree) (q : List ℕ) (i : ℕ) → at q t ≡ Some parent
         → MeetsConstraints u t → MeetsConstraints u (take_in q i t) }
 {}
@@ -152,7 +156,7 @@ pub fn selection_after_a_removal()
         (q : List ℕ) (j : ℕ)
         → SelectsPath (first ∷ steps) t q → at q t ≡ Some parent
         → ((p : List ℕ) × SelectsPath (first ∷ (steps ++ step ∷ [])) (take_in q j t) p)
-        ↔ StillSelects (scope_at q t) step (child_elements_of parent) j }
+        ↔ StillSelectsChild (scope_at q t) step (child_elements_of parent) j }
 {}
 
 /// An element below the root with other attributes: the document is valid, and within the
@@ -164,23 +168,23 @@ pub fn new_attributes_beside_a_change()
         → slice_get (child_elements_of parent) i ≡ Some child_element
         → at (q ++ i ∷ []) t ≡ Some child_element → IsValidDocument u t
         → IsValidDocument u (put_over (q ++ i ∷ []) (with_attrs attrs child_element) t)
-        ↔ AttrsPass (kind_at u t q) (scope_at q t) (tag_with attrs child_element) }
+        ↔ AreAttrsAllowed (kind_at u t q) (scope_at q t) (start_tag_with attrs child_element) }
     ensures references_stay_formed { (u : Usage) (t parent child_element : Tree) (q : List ℕ)
         (i : ℕ) (attrs : List Attr) → at q t ≡ Some parent
         → slice_get (child_elements_of parent) i ≡ Some child_element
         → at (q ++ i ∷ []) t ≡ Some child_element → MeetsConstraints u t
         → MeetsConstraints u (put_over (q ++ i ∷ []) (with_attrs attrs child_element) t)
-        ↔ AttrsFormed (kind_at u t q) (scope_at q t) (tag_with attrs child_element) }
+        ↔ HasFormedAttrs (kind_at u t q) (scope_at q t) (start_tag_with attrs child_element) }
     ensures first_clash { (u : Usage) (t parent child_element : Tree) (q : List ℕ) (i : ℕ)
         (attrs : List Attr) (kind : ElementKind) (found : Option Clash)
         → at q t ≡ Some parent → slice_get (child_elements_of parent) i ≡ Some child_element
         → at (q ++ i ∷ []) t ≡ Some child_element → HasUniqueKeys u t → kind_at u t q ≡ Some kind
-        → IsFirst (ClashesBeside
+        → IsFirstInOrder (ClashesBeside
         (record {
           kind = kind;
           scope = scope_at q t;
           elements = remove (child_elements_of parent) i;
         })
-        (tag_with attrs child_element) i) q found
+        (start_tag_with attrs child_element) i) q found
         ↔ IsFirstClash u (put_over (q ++ i ∷ []) (with_attrs attrs child_element) t) found }
 {}

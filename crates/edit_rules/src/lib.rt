@@ -11,9 +11,9 @@
 #![tactic(auto)]
 
 mod change_laws;
+mod edit_refusal;
 mod key_laws;
 mod puts_and_deletes;
-mod refusal;
 mod spot;
 
 pub use change_laws::{
@@ -21,11 +21,11 @@ pub use change_laws::{
     new_attributes_beside_a_change, selection_after_a_removal, selection_stays_above_a_change,
     validity_beside_a_change,
 };
+pub use edit_refusal::EditRefusal;
 pub use key_laws::a_key_address_keeps_its_element;
 pub use puts_and_deletes::{
     an_attribute_is_put_twice, an_element_is_put_twice, attributes_of_selectors_may_be_written,
     each_plan_has_an_answer, each_plan_has_one_answer, planned_changes_leave_proper_documents,
     what_was_deleted_is_not_found, what_was_put_is_selected, what_was_written_is_found,
 };
-pub use refusal::EditRefusal;
 pub use spot::{NoParent, Spot};

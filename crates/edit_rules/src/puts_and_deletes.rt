@@ -4,12 +4,12 @@
 ghost use Rattle.std.specs.Prelude.{◌≡◌, ◌≤◌, ℕ, List, [], None, Some, Result, Ok, IsTrue};
 ghost use Rattle.doc_names.specs.declared.usages.Usage.{Usage};
 ghost use Rattle.xml_names.specs.declared.limits.TheConstants.{MAX_LEVELS};
-ghost use Rattle.xml_names.specs.Characters.{all_chars};
-ghost use Rattle.xml_tree.specs.Proper.{ProperIn};
+ghost use Rattle.xml_names.specs.Characters.{has_only_chars};
+ghost use Rattle.xml_tree.specs.Proper.{IsProperTree};
 ghost use Rattle.xml_tree.specs.Tree.{Tree, at, height};
 ghost use Rattle.xml_names.specs.declared.names.Decl.{Decl};
 ghost use Rattle.node_select.specs.Faults.{IsSelectorAnswer};
-ghost use Rattle.node_select.specs.Selection.{Found, SelectsPath};
+ghost use Rattle.node_select.specs.Selection.{FindsNode, SelectsPath};
 ghost use Rattle.node_select.specs.declared.selector.End.{End};
 ghost use Rattle.node_select.specs.declared.selector.End.TheVariants as ends;
 ghost use Rattle.node_select.specs.declared.selector.Selector.{Selector};
@@ -20,12 +20,12 @@ ghost use Rattle.edit_ops.specs.declared.change.Change.TheVariants.{Replace};
 ghost use Rattle.edit_rules.specs.declared.spot.Spot.{Spot};
 ghost use Rattle.edit_rules.specs.declared.spot.Spot.TheVariants.{Over, Value};
 ghost use Rattle.edit_rules.specs.declared.spot.NoParent.{NoParent};
-ghost use Rattle.edit_rules.specs.declared.refusal.EditRefusal.{EditRefusal};
-ghost use Rattle.edit_rules.specs.Attributes.{FindsValue, IsAttrPlan, IsWritable};
-ghost use Rattle.edit_rules.specs.Contexts.{PutContext};
+ghost use Rattle.edit_rules.specs.declared.edit_refusal.EditRefusal.{EditRefusal};
+ghost use Rattle.edit_rules.specs.AttributePuts.{FindsValue, IsAttrPlan, IsWritable};
+ghost use Rattle.edit_rules.specs.EditContexts.{PutContext};
 ghost use Rattle.edit_rules.specs.Deletions.{IsDeletePlan};
-ghost use Rattle.edit_rules.specs.Plans.{LeavesProper};
-ghost use Rattle.edit_rules.specs.Puts.{HasRoomAt, IsProperAt, IsPutPlan};
+ghost use Rattle.edit_rules.specs.CheckedChanges.{LeavesProperTree};
+ghost use Rattle.edit_rules.specs.ElementPuts.{FitsWithinLevelsAt, IsProperAt, IsPutPlan};
 ghost use Rattle.edit_rules.specs.Spots.{IsSpot, IsSpotOf};
 
 /// After the planned PUT of an element the address selects exactly it, and the document has no
@@ -55,7 +55,7 @@ pub fn what_was_written_is_found()
 /// After the planned DELETE the address finds nothing, and the document has no fault.
 pub fn what_was_deleted_is_not_found()
     ensures not_found { (u : Usage) (t : Tree) (selector : Selector) (change : Change)
-        → IsDeletePlan u t selector (Ok change) → Found (edited t change) selector → ⊥ }
+        → IsDeletePlan u t selector (Ok change) → FindsNode (edited t change) selector → ⊥ }
     ensures without_fault { (u : Usage) (t : Tree) (selector : Selector) (change : Change)
         → IsDeletePlan u t selector (Ok change) → HasFirstFault u (edited t change) None }
 {}
@@ -124,17 +124,17 @@ pub fn planned_changes_leave_proper_documents()
     ensures for_element { (u : Usage) (t : Tree) (selector : Selector) (spot : Spot) (e : Tree)
         (change : Change)
         → IsPutPlan (record { usage = u; document = t; steps = selector.steps }) spot e (Ok change)
-        → IsSpotOf t selector spot → ProperIn [] t → height t ≤ MAX_LEVELS → IsProperAt t spot e
-        → HasRoomAt spot e
-        → LeavesProper t change }
+        → IsSpotOf t selector spot → IsProperTree [] t → height t ≤ MAX_LEVELS → IsProperAt t spot e
+        → FitsWithinLevelsAt spot e
+        → LeavesProperTree t change }
     ensures for_attribute { (context : PutContext) (uri local p value : List ℕ) (change : Change)
         → IsAttrPlan context (ends.Attribute uri local) p value (Ok change)
-        → ProperIn [] context.document → height context.document ≤ MAX_LEVELS
-        → IsWritable uri local → IsTrue (all_chars value)
-        → LeavesProper context.document change }
+        → IsProperTree [] context.document → height context.document ≤ MAX_LEVELS
+        → IsWritable uri local → IsTrue (has_only_chars value)
+        → LeavesProperTree context.document change }
     ensures for_deletion { (u : Usage) (t : Tree) (selector : Selector) (change : Change)
-        → IsDeletePlan u t selector (Ok change) → ProperIn [] t → height t ≤ MAX_LEVELS
-        → LeavesProper t change }
+        → IsDeletePlan u t selector (Ok change) → IsProperTree [] t → height t ≤ MAX_LEVELS
+        → LeavesProperTree t change }
 {}
 
 /// The attribute that a selector ends in may be written.

@@ -1,4 +1,4 @@
-pub mod Elements
+pub mod ElementNotices
 pub mod SelectionHistory
 pub mod TouchedElements
 pub mod WatchedElements

@@ -6,7 +6,7 @@ use Rattle.node_select.specs.Selection.{SelectsPath}
 use Rattle.node_select.specs.declared.selector.Step.{Step}
 use Rattle.edit_ops.specs.Notes.{Note}
 use Rattle.doc_names.specs.declared.doc_id.DocId.{DocId}
-use Rattle.store_core.specs.DocumentChanges.{document_in, document_name}
+use Rattle.store_core.specs.DocumentChanges.{find_document, document_id}
 use Rattle.store_core.specs.State.{Document, State, Version, versions}
 use Rattle.element_watch.specs.TouchedElements.{moved_through}
 
@@ -16,7 +16,8 @@ abbrev pub notes_after : ℕ → List Version → List Note
 notes_after number vs = reverse (filter_map (λ v. v.note) (take number vs))
 
 -- in the tree the steps select the element e, at a path that the change records move to p
-pub record Finds (steps : List Step) (e t : Tree) (ns : List Note) (p : List ℕ) : Type 0 where
+pub record SelectsElement (steps : List Step) (e t : Tree) (ns : List Note)
+    (p : List ℕ) : Type 0 where
   pub path : List ℕ
   pub selects : SelectsPath steps t path
   pub there : at path t ≡ Some e
@@ -24,20 +25,20 @@ pub record Finds (steps : List Step) (e t : Tree) (ns : List Note) (p : List ℕ
 
 -- in the version of this number, and in each later one, the steps select the element that is at p
 -- in the present one
-abbrev pub FindFrom : ℕ → List Step → Document → List ℕ → Type 0
-FindFrom number steps d p =
+abbrev pub SelectsElementFrom : ℕ → List Step → Document → List ℕ → Type 0
+SelectsElementFrom number steps d p =
     IsSomeAnd (at p d.now.tree) (λ e.
     (k : ℕ) (v : Version) → k ≤ number → slice_get (versions d) k ≡ Some v
-    → Finds steps e v.tree (notes_after k (versions d)) p)
+    → SelectsElement steps e v.tree (notes_after k (versions d)) p)
 
 -- the document has a version with this etag, and since then the steps select in each version the
 -- element that is at p in the present one
-pub record FindSince (m : State) (id : DocId) (tag : ℕ) (steps : List Step)
+pub record SelectsElementSince (m : State) (id : DocId) (tag : ℕ) (steps : List Step)
     (p : List ℕ) : Type 0 where
   pub document : Document
-  pub there : document_in document_name m.documents id ≡ Some document
+  pub there : find_document document_id m.documents id ≡ Some document
   pub from : Version
   pub number : ℕ
   pub is_version : slice_get (versions document) number ≡ Some from
   pub same_tag : from.tag ≡ tag
-  pub finds : FindFrom number steps document p
+  pub finds : SelectsElementFrom number steps document p

@@ -5,23 +5,23 @@ use Rattle.std.specs.Prelude.{◌≡◌, ℕ, List, [], ◌⊎◌, Option, None,
 use Rattle.std.specs.Prelude.{encode_utf8_all}
 use Rattle.xml_tree.specs.Tree.{Tree}
 use Rattle.xml_tree.specs.Print.{document_print}
-use Rattle.doc_names.specs.Ids.{id_text}
+use Rattle.doc_names.specs.DocIds.{id_text}
 use Rattle.doc_names.specs.Usages.{usage_of}
 use Rattle.doc_names.specs.declared.doc_id.DocId.{DocId}
 use Rattle.doc_names.specs.declared.usages.Usage.{Usage}
 use Rattle.node_select.specs.Selection.{SelectsPath}
 use Rattle.node_select.specs.declared.selector.Selector.{Selector}
 use Rattle.edit_ops.specs.Notes.{Note}
-use Rattle.patch_rules.specs.Notices.{candidate, diff}
-use Rattle.element_watch.specs.Elements.{element_notice}
+use Rattle.patch_rules.specs.Notices.{candidate_prefix, diff}
+use Rattle.element_watch.specs.ElementNotices.{element_notice}
 use Rattle.element_watch.specs.declared.element_states.ElementState.{ElementState}
 use Rattle.element_watch.specs.declared.element_states.ElementState.TheVariants.{Unchanged, Exists}
 use Rattle.element_watch.specs.declared.element_states.ElementState.TheVariants.{Missing}
 use Rattle.edit_rules.specs.KeyAddresses.{IsKeyAddressOf}
-use Rattle.store_core.specs.DocumentChanges.{document_in, stored_name}
+use Rattle.store_core.specs.DocumentChanges.{find_document, stored_id}
 use Rattle.store_core.specs.Contents.{StoredDocument, StoreContents}
 use Rattle.store_core.specs.Since.{ChangesSince, Gone, Unknown, ReportedChanges}
-use Rattle.element_watch.specs.TouchedElements.{PassesThrough}
+use Rattle.element_watch.specs.TouchedElements.{MovesUntouchedThrough}
 use Rattle.element_watch.specs.declared.fault.ElementFault.{ElementFault}
 use Rattle.element_watch.specs.declared.fault.ElementFault.TheVariants as faults
 
@@ -38,7 +38,7 @@ pub record IsUntouchedAt (u : Usage) (t : Tree) (selector : Selector) (ns : List
   pub selects : SelectsPath selector.steps t p
   pub by_keys : IsKeyAddressOf u t selector p
   pub former : List ℕ
-  pub passes : PassesThrough former ns p
+  pub passes : MovesUntouchedThrough former ns p
 
 -- an application usage that stores no documents has no elements with keys
 abbrev pub IsUntouched : Option Usage → Tree → Selector → List Note → Type 0
@@ -46,15 +46,17 @@ IsUntouched None t selector ns = ⊥
 IsUntouched (Some u) t selector ns = (p : List ℕ) × IsUntouchedAt u t selector ns p
 
 -- nothing is to be reported: no change was made since, or none that touches the element
-abbrev pub IsQuiet : Option Usage → Tree → Selector → List Note → Type 0
-IsQuiet u t selector ns = (ns ≡ []) ⊎ IsUntouched u t selector ns
+abbrev pub HasNothingToReport : Option Usage → Tree → Selector → List Note → Type 0
+HasNothingToReport u t selector ns = (ns ≡ []) ⊎ IsUntouched u t selector ns
 
 -- the state of the element: unchanged; or that it may have changed, and whether the selector
 -- selects something now
-abbrev pub IsStateOf : Option Usage → Tree → Selector → List Note → ElementState → Type 0
-IsStateOf u t selector ns Unchanged = IsQuiet u t selector ns
-IsStateOf u t selector ns Exists = (IsQuiet u t selector ns → ⊥) × SelectsSome selector t
-IsStateOf u t selector ns Missing = (IsQuiet u t selector ns → ⊥) × (SelectsSome selector t → ⊥)
+abbrev pub IsElementState : Option Usage → Tree → Selector → List Note → ElementState → Type 0
+IsElementState u t selector ns Unchanged = HasNothingToReport u t selector ns
+IsElementState u t selector ns Exists =
+    (HasNothingToReport u t selector ns → ⊥) × SelectsSome selector t
+IsElementState u t selector ns Missing =
+    (HasNothingToReport u t selector ns → ⊥) × (SelectsSome selector t → ⊥)
 
 -- ---- the diff document
 
@@ -69,14 +71,14 @@ pub record WatchedElement : Type 0 where
 pub record IsElementNotice (root : List ℕ) (watched : WatchedElement) (c : StoreContents)
     (ns : List Note) (notice : Tree) : Type 0 where
   pub held : StoredDocument
-  pub there : document_in stored_name c.documents watched.doc ≡ Some held
+  pub there : find_document stored_id c.documents watched.doc ≡ Some held
   pub state : ElementState
-  pub is_state : IsStateOf (usage_of watched.doc.auid) held.tree watched.selector ns state
+  pub is_state : IsElementState (usage_of watched.doc.auid) held.tree watched.selector ns state
   pub told : notice ≡ element_notice root (id_text watched.doc) watched.raw state
 
 -- the diff document that reports nothing
 abbrev pub silent_notice : List ℕ → Tree
-silent_notice root = diff (candidate 0) root []
+silent_notice root = diff (candidate_prefix 0) root []
 
 -- the text of a diff document
 abbrev pub IsNoticeText : List ℕ → WatchedElement → StoreContents → List Note → List ℕ → Type 0

@@ -5,13 +5,14 @@ ghost use Rattle.xml_tree.specs.Tree.{height};
 ghost use Rattle.node_select.specs.Selection.{SelectsPath};
 ghost use Rattle.edit_ops.specs.RecordParts.{all_notes};
 ghost use Rattle.store_core.specs.declared.limits.TheConstants.{MAX_NOTES};
-ghost use Rattle.store_core.specs.ValidStates.{IsSoundFor};
+ghost use Rattle.store_core.specs.ValidStates.{IsSoundDocumentFor};
 ghost use Rattle.store_core.specs.Since.{ReportedChanges, since};
-ghost use Rattle.patch_rules.specs.inner.Lists.{is_none};
+ghost use Rattle.patch_rules.specs.inner.AppendedElements.{has_no_notes};
 ghost use Rattle.element_watch.specs.declared.element_states.ElementState.TheVariants.{Unchanged};
 ghost use Rattle.element_watch.specs.declared.element_states.ElementState.TheVariants.{Missing};
 ghost use Rattle.element_watch.specs.WatchedElements.{IsNoticeAnswer, IsNoticeText};
-ghost use Rattle.element_watch.specs.inner.ElementStates.{is_untouched_at, state_at, state_in};
+ghost use Rattle.element_watch.specs.inner.ElementStates.{is_untouched_at, state_at};
+ghost use Rattle.element_watch.specs.inner.ElementStates.{state_of_selected};
 
 use crate::element_states::{ElementState, notice_of_element};
 use crate::fault::ElementFault;
@@ -37,8 +38,8 @@ pub struct Watch<'a> {
     pub raw: &'a Text,
 }
 
-fn are_none(notes: Notes<'_>) -> bool
-    ensures exact { result ≡ is_none (all_notes notes.entry.older.now notes.entry.newer.now) }
+fn has_no_records(notes: Notes<'_>) -> bool
+    ensures exact { result ≡ has_no_notes (all_notes notes.entry.older.now notes.entry.newer.now) }
 {
     notes.older.is_empty() && notes.newer.is_empty()
 }
@@ -77,19 +78,19 @@ fn state_at(
         ≡ state_at (Some usage) root.now selector.now
         (all_notes notes.entry.older.now notes.entry.newer.now) (Some path.now) }
 {
-    if are_none(notes) || is_untouched(usage, root, selector, path, notes) {
+    if has_no_records(notes) || is_untouched(usage, root, selector, path, notes) {
         return ElementState::Unchanged;
     }
     ElementState::Exists
 }
 
 // The state where the selector selects nothing.
-fn state_without(notes: Notes<'_>) -> ElementState
+fn state_if_unselected(notes: Notes<'_>) -> ElementState
     ensures exact { result
-        ≡ (if is_none (all_notes notes.entry.older.now notes.entry.newer.now) then Unchanged
+        ≡ (if has_no_notes (all_notes notes.entry.older.now notes.entry.newer.now) then Unchanged
         else Missing) }
 {
-    if are_none(notes) {
+    if has_no_records(notes) {
         return ElementState::Unchanged;
     }
     ElementState::Missing
@@ -103,15 +104,15 @@ fn state_of(
     selector: &Selector,
     notes: Notes<'_>,
 ) -> ElementState
-    requires is_sound { IsSoundFor (Some usage) root.now }
+    requires is_sound { IsSoundDocumentFor (Some usage) root.now }
     requires height_bounded { height root.now ≤ MAX_LEVELS }
     requires within_max { length notes.older.now + length notes.newer.now ≤ MAX_NOTES }
     ensures exact { result
-        ≡ state_in (Some usage) root.now selector.now
+        ≡ state_of_selected (Some usage) root.now selector.now
         (all_notes notes.entry.older.now notes.entry.newer.now) }
 {
     match select(alloc, root, selector) {
-        None => state_without(notes),
+        None => state_if_unselected(notes),
         Some(path) => state_at(usage, root, selector, &path, notes),
     }
 }

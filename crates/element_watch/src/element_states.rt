@@ -1,13 +1,13 @@
 //! Diff documents about single elements (RFC 5874, section 3).
 ghost use Rattle.std.specs.Prelude.{◌≡◌, [], ◌∷◌, IfOk, OnOk, chars, encode_utf8_all, ◌++◌, codes};
-ghost use Rattle.doc_names.specs.Ids.{id_text};
+ghost use Rattle.doc_names.specs.DocIds.{id_text};
 ghost use Rattle.xml_tree.specs.Print.{document_print};
-ghost use Rattle.element_watch.specs.Elements.{element_notice, existence_element};
-ghost use Rattle.element_watch.specs.Elements.{existence_elements, truth};
-ghost use Rattle.patch_rules.specs.inner.Lists.{with_all};
+ghost use Rattle.element_watch.specs.ElementNotices.{element_notice, existence_element};
+ghost use Rattle.element_watch.specs.ElementNotices.{existence_elements, boolean_text};
+ghost use Rattle.patch_rules.specs.inner.AppendedElements.{with_elements};
 
 use doc_names::{DocId, print_doc_id};
-use patch_rules::{element_of, empty_notice, push_plain};
+use patch_rules::{empty_notice, new_diff_element, push_plain_attr};
 use std::alloc::{AllocError, Global};
 use tree_print::print_document;
 use xcap_io::Bytes;
@@ -27,14 +27,14 @@ pub enum ElementState {
 }
 
 // A truth value as XML Schema writes it.
-fn truth(value: bool) -> &'static str
-    ensures exact { chars result.now ≡ truth value }
+fn boolean_text(value: bool) -> &'static str
+    ensures exact { chars result.now ≡ boolean_text value }
 {
     if value { "true" } else { "false" }
 }
 
 // The address of an element of a document, by its selector as written.
-fn address(alloc: Global, doc: &DocId, raw: &Text) -> Result<Text, AllocError>
+fn element_address(alloc: Global, doc: &DocId, raw: &Text) -> Result<Text, AllocError>
     ensures ok { IfOk result (λ text. text ≡ id_text doc.now ++ codes "/~~/" ++ raw.now) }
 {
     let mut line = print_doc_id(alloc, doc)?;
@@ -52,13 +52,13 @@ fn new_existence_element(
 ) -> Result<Element, AllocError>
     ensures ok { IfOk result (λ made. made ≡ existence_element prefix.now sel exists) }
 {
-    let mut made = element_of(alloc, prefix, "element")?;
-    push_plain(alloc, &mut made, "sel", sel)?;
-    push_plain(
+    let mut made = new_diff_element(alloc, prefix, "element")?;
+    push_plain_attr(alloc, &mut made, "sel", sel)?;
+    push_plain_attr(
         alloc,
         &mut made,
         "exists",
-        Text::from(alloc, truth(exists))?,
+        Text::from(alloc, boolean_text(exists))?,
     )?;
     Ok(made)
 }
@@ -72,7 +72,7 @@ fn push_existence_element(
     exists: bool,
 ) -> Result<(), AllocError>
     ensures ok { OnOk result
-        (notice.new ≡ with_all (existence_element prefix.now sel exists ∷ []) notice.old) }
+        (notice.new ≡ with_elements (existence_element prefix.now sel exists ∷ []) notice.old) }
 {
     let made = new_existence_element(alloc, prefix, sel, exists)?;
     notice.push_elem(made)?;
@@ -88,7 +88,7 @@ fn push_state(
     state: ElementState,
 ) -> Result<(), AllocError>
     ensures ok { OnOk result
-        (notice.new ≡ with_all (existence_elements prefix.now sel state) notice.old) }
+        (notice.new ≡ with_elements (existence_elements prefix.now sel state) notice.old) }
 {
     match state {
         ElementState::Unchanged => Ok(()),
@@ -111,7 +111,7 @@ pub(crate) fn notice_of_element(
         (document_print (element_notice root.now (id_text doc.now) raw.now state))) }
 {
     let prefix = Prefix::from(alloc, "d")?;
-    let sel = address(alloc, doc, raw)?;
+    let sel = element_address(alloc, doc, raw)?;
     let mut notice = empty_notice(alloc, &prefix, root.text())?;
     push_state(alloc, &mut notice, &prefix, sel, state)?;
     print_document(alloc, &notice)

@@ -4,11 +4,11 @@ ghost use Rattle.std.specs.Str.{bytes_eq};
 ghost use Rattle.xml_tree.specs.declared.path.TheConstants.{PATH_LIMIT};
 ghost use Rattle.xml_tree.specs.Tree.{child_elements_of};
 ghost use Rattle.node_select.specs.Selection.{SelectsPath};
-ghost use Rattle.usage_docs.specs.Keys.{word};
+ghost use Rattle.usage_docs.specs.KeyAttributes.{attribute_name};
 ghost use Rattle.edit_rules.specs.KeyAddresses.{IsKeyAddressOf};
-ghost use Rattle.element_watch.specs.inner.KeyAddresses.{are_key_steps, are_steps_along};
+ghost use Rattle.element_watch.specs.inner.KeyAddresses.{are_key_steps, are_key_steps_along};
 ghost use Rattle.element_watch.specs.inner.KeyAddresses.{ends_in_element, has_name, is_name_alone};
-ghost use Rattle.element_watch.specs.inner.KeyAddresses.{is_step_of, tests_key, tests_key_of};
+ghost use Rattle.element_watch.specs.inner.KeyAddresses.{is_key_step, tests_key, tests_key_of};
 
 use doc_names::Usage;
 use node_select::{AttrTest, End, NameTest, Selector, Step};
@@ -33,13 +33,13 @@ fn is_name_alone(step: &Step) -> bool
     has_name(&step.name) && step.position.is_none() && step.test.is_none()
 }
 
-fn is_word(text: &Text, key: Key) -> bool
-    ensures exact { result ≡ bytes_eq text.now (word key) }
+fn is_key_name(text: &Text, key: Key) -> bool
+    ensures exact { result ≡ bytes_eq text.now (attribute_name key) }
 {
-    text.is(key.word())
+    text.is(key.attribute_name())
 }
 
-fn is_nothing(text: &Text) -> bool
+fn is_empty_text(text: &Text) -> bool
     ensures exact { result ≡ bytes_eq text.now [] }
 {
     text.is("")
@@ -48,7 +48,7 @@ fn is_nothing(text: &Text) -> bool
 fn tests_key(key: Key, test: &AttrTest) -> bool
     ensures exact { result ≡ tests_key key test.now }
 {
-    is_nothing(&test.uri) && is_word(&test.local, key)
+    is_empty_text(&test.uri) && is_key_name(&test.local, key)
 }
 
 fn tests_key_of(kind: ElementKind, test: &Option<AttrTest>) -> bool
@@ -64,8 +64,8 @@ fn tests_key_of(kind: ElementKind, test: &Option<AttrTest>) -> bool
 }
 
 // Whether a step is a name with a test of this kind's key and no position.
-fn is_step_of(kind: ElementKind, step: &Step) -> bool
-    ensures exact { result ≡ is_step_of kind step.now }
+fn is_key_step(kind: ElementKind, step: &Step) -> bool
+    ensures exact { result ≡ is_key_step kind step.now }
 {
     has_name(&step.name) && step.position.is_none() && tests_key_of(kind, &step.test)
 }
@@ -74,7 +74,7 @@ fn is_step_of(kind: ElementKind, step: &Step) -> bool
 
 // Whether all are key steps along a path of elements that have kinds, from the children of an
 // element of this kind down.
-fn are_steps_along<'a>(
+fn are_key_steps_along<'a>(
     row: ElementKind,
     scope: &Scope<'a>,
     element: &'a Element,
@@ -83,7 +83,7 @@ fn are_steps_along<'a>(
 ) -> bool
     requires { length scope.now + length path.now ≤ PATH_LIMIT + 1 }
     ensures exact { result
-        ≡ are_steps_along row scope.now (child_elements_of element.now) steps.now path.now }
+        ≡ are_key_steps_along row scope.now (child_elements_of element.now) steps.now path.now }
 {
     let [number, path @ ..] = path else {
         return true;
@@ -98,7 +98,7 @@ fn are_steps_along<'a>(
     let Some(kind) = kind_of(row, &LinkedScope::from_scope(&within), child_element.name()) else {
         return false;
     };
-    is_step_of(kind, step) && are_steps_along(kind, &within, child_element, steps, path)
+    is_key_step(kind, step) && are_key_steps_along(kind, &within, child_element, steps, path)
 }
 
 // Whether the first step is only a name, and the others are key steps along a path of a document.
@@ -109,7 +109,8 @@ fn are_key_steps(usage: Usage, root: &Element, steps: &[Step], path: &Path) -> b
         return false;
     };
     let scope = Scope::empty().with(root.decls());
-    is_name_alone(first) && are_steps_along(root_kind(usage), &scope, root, later, path.numbers())
+    is_name_alone(first)
+        && are_key_steps_along(root_kind(usage), &scope, root, later, path.numbers())
 }
 
 fn ends_in_element(end: &End) -> bool

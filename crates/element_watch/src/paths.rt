@@ -17,7 +17,7 @@ pub(crate) fn path_below<'a>(place: &Path, path: &'a Path) -> Option<&'a [usize]
 }
 
 // Whether the element at a path is the one at a place, or is inside it.
-pub(crate) fn lies_in(place: &Path, path: &Path) -> bool
+pub(crate) fn is_at_or_below(place: &Path, path: &Path) -> bool
     ensures exact { result ≡ is_some (path_below place.now path.now) }
 {
     path_below(place, path).is_some()

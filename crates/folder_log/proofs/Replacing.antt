@@ -2,84 +2,84 @@
 use Rattle.std.proofs.Common.{◌≡◌, inl, inr, ◌⊎◌, ℕ, ◌≤◌, List, [], ◌∷◌, ◌++◌, length, map, Bool, true, false, Option, Some, None, refl, sym, ap, subst, ◌∙◌, arith, true≢false}
 use Rattle.std.specs.Prelude.{IsSomeAnd}
 use Rattle.std.proofs.lemmas.List.{append-nil}
-use Rattle.log_disk.specs.Folders.{FolderState, History as FolderMoments, goes_to as folder_goes, with_step as folder_step, with_rename, with_lost_rename, with_loss, with_folder_sync, settled_on}
-use Rattle.log_disk.specs.Crashes.{MayLeave}
-use Rattle.log_entries.specs.Entries.{Entry, text}
-use Rattle.change_log.specs.Contents.{Contents, snapshot_of}
-use Rattle.change_log.specs.Moments.{Moment, History, MayFind, FindsOldOr, Passes, holding, with_step, with_instead, with_snapshot}
-use Rattle.folder_log.specs.FileForm.{part_entry}
-use Rattle.folder_log.specs.Restarts.{FindsOne, IsFoundIn, LeavesOne}
-use Rattle.folder_log.specs.Logs.{LogParts, IsSound}
-use Rattle.folder_log.specs.inner.Steps.{first_entry, IsReady}
+use Rattle.log_disk.specs.FolderStates.{FolderState, History as FolderMoments, with_next_state as folder_goes, with_step as folder_step, with_rename, with_failed_rename, with_failed_sync, with_folder_sync, settled_state}
+use Rattle.log_disk.specs.Crashes.{CrashMayLeave}
+use Rattle.log_entries.specs.Entries.{Entry, entries_bytes}
+use Rattle.change_log.specs.LogContents.{Contents, snapshot_of}
+use Rattle.change_log.specs.LogHistories.{Moment, History, MayBeFound, IsFoundBeforeOr, HoldsAtEachMoment, settled_moment, with_step, with_possible_snapshot, with_snapshot}
+use Rattle.folder_log.specs.FileFormat.{part_entry}
+use Rattle.folder_log.specs.Restarts.{FindsPossibleContents, IsFoundInFile, LeavesPossibleContents}
+use Rattle.folder_log.specs.FolderLogs.{LogParts, HasSoundParts}
+use Rattle.folder_log.specs.inner.DraftSteps.{snapshot_end_entry, HasReadyDraft}
 use Rattle.change_log.proofs.Passing.{and_then, weaker}
 use Rattle.folder_log.proofs.Finding.{nonempty_push, restores_text}
 use Rattle.folder_log.proofs.Holding.{of_both, crash}
 use Rattle.folder_log.proofs.Scanning.{contents_snapshot}
 
-instead_finds : (h : History) (first : ℕ) (c : Contents) → MayFind (with_instead first h).now c → FindsOldOr h (snapshot_of h.draft first) c
+instead_finds : (h : History) (first : ℕ) (c : Contents) → MayBeFound (with_possible_snapshot first h).now c → IsFoundBeforeOr h (snapshot_of h.draft first) c
 instead_finds h first c (inl is) = inl (inl is)
 instead_finds h first c (inr (inl is)) = inl (inr (inl is))
 instead_finds h first c (inr (inr is)) = inr is
 
-snapshot_finds : (h : History) (first : ℕ) (c : Contents) → MayFind (holding (snapshot_of h.draft first)) c → FindsOldOr h (snapshot_of h.draft first) c
+snapshot_finds : (h : History) (first : ℕ) (c : Contents) → MayBeFound (settled_moment (snapshot_of h.draft first)) c → IsFoundBeforeOr h (snapshot_of h.draft first) c
 snapshot_finds h first c (inl is) = inr is
 snapshot_finds h first c (inr (inl none)) = absurd none
 snapshot_finds h first c (inr (inr none)) = absurd none
 
-pub instead_passes : (old new : History) (first : ℕ) → new ≡ with_instead first old → Passes (FindsOldOr old (snapshot_of old.draft first)) old new
+pub instead_passes : (old new : History) (first : ℕ) → new ≡ with_possible_snapshot first old → HoldsAtEachMoment (IsFoundBeforeOr old (snapshot_of old.draft first)) old new
 instead_passes old new first is = record {
-  moments = (with_instead first old).now ∷ [];
+  moments = (with_possible_snapshot first old).now ∷ [];
   split = ap (λ (h : History). h.now ∷ h.past) is;
   each = (instead_finds old first, tt);
 }
 
-pub lost_passes : (old mid new : History) (first : ℕ) → mid ≡ with_instead first old → new ≡ with_step mid (λ m. m) → Passes (FindsOldOr old (snapshot_of old.draft first)) old new
+pub lost_passes : (old mid new : History) (first : ℕ) → mid ≡ with_possible_snapshot first old → new ≡ with_step mid (λ m. m) → HoldsAtEachMoment (IsFoundBeforeOr old (snapshot_of old.draft first)) old new
 lost_passes old mid new first mid_is new_is = record {
-  moments = (with_instead first old).now ∷ (with_instead first old).now ∷ [];
+  moments = (with_possible_snapshot first old).now ∷ (with_possible_snapshot first old).now ∷ [];
   split = ap (λ (h : History). h.now ∷ h.past) (new_is ∙ ap (λ (h : History). with_step h (λ m. m)) mid_is);
   each = (instead_finds old first, (instead_finds old first, tt));
 }
 
-pub replaced_passes : (old mid new : History) (first : ℕ) → mid ≡ with_instead first old → new ≡ with_snapshot first mid → Passes (FindsOldOr old (snapshot_of old.draft first)) old new
+pub replaced_passes : (old mid new : History) (first : ℕ) → mid ≡ with_possible_snapshot first old → new ≡ with_snapshot first mid → HoldsAtEachMoment (IsFoundBeforeOr old (snapshot_of old.draft first)) old new
 replaced_passes old mid new first mid_is new_is = record {
-  moments = holding (snapshot_of old.draft first) ∷ (with_instead first old).now ∷ [];
+  moments = settled_moment (snapshot_of old.draft first) ∷ (with_possible_snapshot first old).now ∷ [];
   split = ap (λ (h : History). h.now ∷ h.past) (new_is ∙ ap (λ (h : History). with_snapshot first h) mid_is);
   each = (snapshot_finds old first, (instead_finds old first, tt));
 }
 
 -- what was found is found still, where the snapshot may be there instead
-finds_more : (h : History) (first : ℕ) (file : List ℕ) → h.now.instead ≡ None → FindsOne h.now file → FindsOne (with_instead first h).now file
+finds_more : (h : History) (first : ℕ) (file : List ℕ) → h.now.instead ≡ None → FindsPossibleContents h.now file → FindsPossibleContents (with_possible_snapshot first h).now file
 finds_more h first file none (inl (c, inl is, found)) = inl (c, inl is, found)
 finds_more h first file none (inl (c, inr (inl is), found)) = inl (c, inr (inl is), found)
 finds_more h first file none (inl (c, inr (inr is), found)) = absurd (subst (λ (o : Option Contents). IsSomeAnd o (λ replaced. c ≡ replaced)) none is)
 finds_more h first file none (inr chance) = inr chance
 
-module _ (p : LogParts) (s : IsSound p) (running : p.is_stopped ≡ false) (no_draft : p.has_draft ≡ false) (first : ℕ) (r : IsReady p first) where
+module _ (p : LogParts) (s : HasSoundParts p) (running : p.is_stopped ≡ false) (no_draft : p.has_draft ≡ false) (first : ℕ) (r : HasReadyDraft p first) where
   abbrev f : FolderState
   f = p.folder.now
 
   abbrev es : List Entry
-  es = map part_entry p.history.draft ++ first_entry first ∷ []
+  es = map part_entry p.history.draft ++ snapshot_end_entry first ∷ []
 
   abbrev file_text : List ℕ
-  file_text = text p.draft_mark es
+  file_text = entries_bytes p.draft_mark es
 
   abbrev snapshot : Contents
   snapshot = snapshot_of p.history.draft first
 
   abbrev instead : Moment
-  instead = (with_instead first p.history).now
+  instead = (with_possible_snapshot first p.history).now
 
-  found : IsFoundIn file_text snapshot
-  found = inr (es, restores_text p.draft_mark r.marked es (nonempty_push (map part_entry p.history.draft) (first_entry first)) r.fit, contents_snapshot p.history.draft first)
+  found : IsFoundInFile file_text snapshot
+  found = inr (es, restores_text p.draft_mark r.marked es (nonempty_push (map part_entry p.history.draft) (snapshot_end_entry first)) r.fit, contents_snapshot p.history.draft first)
 
-  leaves_either : (file : List ℕ) → MayLeave (with_rename f) file → FindsOne instead file
+  leaves_either : (file : List ℕ) → CrashMayLeave (with_rename f) file → FindsPossibleContents instead file
   leaves_either file (inl old) = finds_more p.history first file (s.none_instead running) (s.leaves.0 file (inl old))
   leaves_either file (inr new) =
       let is : file ≡ file_text = subst (λ (o : Option (List ℕ)). IsSomeAnd o (λ bytes. file ≡ bytes)) r.draft new in
-      inl (snapshot, inr (inr refl), subst (λ (l : List ℕ). IsFoundIn l snapshot) (sym is) found)
+      inl (snapshot, inr (inr refl), subst (λ (l : List ℕ). IsFoundInFile l snapshot) (sym is) found)
 
-  unsettled : IsSound (record p { folder = folder_step p.folder with_lost_rename; history = with_instead first p.history; is_stopped = true })
+  unsettled : HasSoundParts (record p { folder = folder_step p.folder with_failed_rename; history = with_possible_snapshot first p.history; is_stopped = true })
   unsettled = record {
     torn = s.torn;
     lost = refl;
@@ -92,18 +92,18 @@ module _ (p : LogParts) (s : IsSound p) (running : p.is_stopped ≡ false) (no_d
     leaves = (leaves_either, s.leaves);
   }
 
-  pub unsettled_sound : (folder : FolderMoments) (history : History) → folder ≡ folder_step p.folder with_lost_rename → history ≡ with_instead first p.history
-      → IsSound (record p { folder = folder; history = history; is_stopped = true })
+  pub unsettled_sound : (folder : FolderMoments) (history : History) → folder ≡ folder_step p.folder with_failed_rename → history ≡ with_possible_snapshot first p.history
+      → HasSoundParts (record p { folder = folder; history = history; is_stopped = true })
   unsettled_sound folder history f_is h_is =
-      of_both (λ g h. IsSound (record p { folder = g; history = h; is_stopped = true })) (folder_step p.folder with_lost_rename) folder (with_instead first p.history) history f_is h_is unsettled
+      of_both (λ g h. HasSoundParts (record p { folder = g; history = h; is_stopped = true })) (folder_step p.folder with_failed_rename) folder (with_possible_snapshot first p.history) history f_is h_is unsettled
 
   abbrev lost_folder : FolderMoments
-  lost_folder = folder_step (folder_step p.folder with_rename) with_loss
+  lost_folder = folder_step (folder_step p.folder with_rename) with_failed_sync
 
   abbrev lost_history : History
-  lost_history = with_step (with_instead first p.history) (λ m. m)
+  lost_history = with_step (with_possible_snapshot first p.history) (λ m. m)
 
-  lost : IsSound (record p { folder = lost_folder; history = lost_history; is_stopped = true })
+  lost : HasSoundParts (record p { folder = lost_folder; history = lost_history; is_stopped = true })
   lost = record {
     torn = s.torn;
     lost = refl;
@@ -116,33 +116,33 @@ module _ (p : LogParts) (s : IsSound p) (running : p.is_stopped ≡ false) (no_d
     leaves = (leaves_either, (leaves_either, s.leaves));
   }
 
-  pub lost_sound : (second third : FolderMoments) (mid new : History) → second ≡ folder_step p.folder with_rename → third ≡ folder_step second with_loss → mid ≡ with_instead first p.history
-      → new ≡ with_step mid (λ m. m) → IsSound (record p { folder = third; history = new; is_stopped = true })
+  pub lost_sound : (second third : FolderMoments) (mid new : History) → second ≡ folder_step p.folder with_rename → third ≡ folder_step second with_failed_sync → mid ≡ with_possible_snapshot first p.history
+      → new ≡ with_step mid (λ m. m) → HasSoundParts (record p { folder = third; history = new; is_stopped = true })
   lost_sound second third mid new second_is third_is mid_is new_is =
-      of_both (λ g h. IsSound (record p { folder = g; history = h; is_stopped = true })) lost_folder third lost_history new
-      (third_is ∙ ap (λ (g : FolderMoments). folder_step g with_loss) second_is) (new_is ∙ ap (λ (h : History). with_step h (λ m. m)) mid_is) lost
+      of_both (λ g h. HasSoundParts (record p { folder = g; history = h; is_stopped = true })) lost_folder third lost_history new
+      (third_is ∙ ap (λ (g : FolderMoments). folder_step g with_failed_sync) second_is) (new_is ∙ ap (λ (h : History). with_step h (λ m. m)) mid_is) lost
 
   abbrev settled_folder : FolderMoments
-  settled_folder = folder_goes (folder_step p.folder with_rename) (settled_on file_text f.faults)
+  settled_folder = folder_goes (folder_step p.folder with_rename) (settled_state file_text f.faults)
 
   -- the folder that a sync settles has the draft for its file
   settles : folder_step (folder_step p.folder with_rename) with_folder_sync ≡ settled_folder
-  settles = ap (λ (o : Option (List ℕ)). folder_goes (folder_step p.folder with_rename) (elim o [ None ↦ with_rename f | Some bytes ↦ settled_on bytes f.faults ])) r.draft
+  settles = ap (λ (o : Option (List ℕ)). folder_goes (folder_step p.folder with_rename) (elim o [ None ↦ with_rename f | Some bytes ↦ settled_state bytes f.faults ])) r.draft
 
   abbrev new_history : History
-  new_history = with_snapshot first (with_instead first p.history)
+  new_history = with_snapshot first (with_possible_snapshot first p.history)
 
   no_tail : (tail : List ℕ) → length tail ≤ 0 → tail ≡ []
   no_tail [] le = refl
   no_tail (b ∷ tail) le = absurd (omega (arith, le))
 
-  leaves_new : (file : List ℕ) → MayLeave (settled_on file_text f.faults) file → FindsOne (holding snapshot) file
+  leaves_new : (file : List ℕ) → CrashMayLeave (settled_state file_text f.faults) file → FindsPossibleContents (settled_moment snapshot) file
   leaves_new file (inl (tail, short, is)) =
       let same : file ≡ file_text = is ∙ ap (λ (l : List ℕ). file_text ++ l) (no_tail tail short) ∙ append-nil file_text in
-      inl (snapshot, inl refl, subst (λ (l : List ℕ). IsFoundIn l snapshot) (sym same) found)
+      inl (snapshot, inl refl, subst (λ (l : List ℕ). IsFoundInFile l snapshot) (sym same) found)
   leaves_new file (inr none) = absurd none
 
-  replaced : IsSound (record p { folder = settled_folder; history = new_history; mark = p.draft_mark; next = first; is_begun = true; is_torn = false })
+  replaced : HasSoundParts (record p { folder = settled_folder; history = new_history; mark = p.draft_mark; next = first; is_begun = true; is_torn = false })
   replaced = record {
     torn = refl;
     lost = sym running;
@@ -154,7 +154,7 @@ module _ (p : LogParts) (s : IsSound p) (running : p.is_stopped ≡ false) (no_d
       entries = es;
       holds = record {
         marked = r.marked;
-        nonempty = nonempty_push (map part_entry p.history.draft) (first_entry first);
+        nonempty = nonempty_push (map part_entry p.history.draft) (snapshot_end_entry first);
         fit = r.fit;
         open_fits = tt;
         open_short = omega arith;
@@ -170,20 +170,20 @@ module _ (p : LogParts) (s : IsSound p) (running : p.is_stopped ≡ false) (no_d
     leaves = (leaves_new, (leaves_either, s.leaves));
   }
 
-  pub replaced_sound : (second third : FolderMoments) (mid new : History) → second ≡ folder_step p.folder with_rename → third ≡ folder_step second with_folder_sync → mid ≡ with_instead first p.history
-      → new ≡ with_snapshot first mid → IsSound (record p { folder = third; history = new; mark = p.draft_mark; next = first; is_begun = true; is_torn = false })
+  pub replaced_sound : (second third : FolderMoments) (mid new : History) → second ≡ folder_step p.folder with_rename → third ≡ folder_step second with_folder_sync → mid ≡ with_possible_snapshot first p.history
+      → new ≡ with_snapshot first mid → HasSoundParts (record p { folder = third; history = new; mark = p.draft_mark; next = first; is_begun = true; is_torn = false })
   replaced_sound second third mid new second_is third_is mid_is new_is =
-      of_both (λ g h. IsSound (record p { folder = g; history = h; mark = p.draft_mark; next = first; is_begun = true; is_torn = false })) settled_folder third new_history new
+      of_both (λ g h. HasSoundParts (record p { folder = g; history = h; mark = p.draft_mark; next = first; is_begun = true; is_torn = false })) settled_folder third new_history new
       (third_is ∙ ap (λ (g : FolderMoments). folder_step g with_folder_sync) second_is ∙ settles) (new_is ∙ ap (λ (h : History). with_snapshot first h) mid_is) replaced
 
-found_then : (old mid : History) (first : ℕ) (c : Contents) → mid.now ≡ old.now → mid.draft ≡ old.draft → FindsOldOr mid (snapshot_of mid.draft first) c → FindsOldOr old (snapshot_of old.draft first) c
-found_then old mid first c same parts (inl may) = inl (subst (λ (m : Moment). MayFind m c) same may)
+found_then : (old mid : History) (first : ℕ) (c : Contents) → mid.now ≡ old.now → mid.draft ≡ old.draft → IsFoundBeforeOr mid (snapshot_of mid.draft first) c → IsFoundBeforeOr old (snapshot_of old.draft first) c
+found_then old mid first c same parts (inl may) = inl (subst (λ (m : Moment). MayBeFound m c) same may)
 found_then old mid first c same parts (inr is) = inr (is ∙ ap (λ (l : List (List ℕ)). snapshot_of l first) parts)
 
 -- the draft was ended, and then put in the log's place
-pub drafted_then : (old mid new : History) (first : ℕ) → mid.now ≡ old.now → mid.draft ≡ old.draft → Passes (MayFind old.now) old mid → Passes (FindsOldOr mid (snapshot_of mid.draft first)) mid new
-    → Passes (FindsOldOr old (snapshot_of old.draft first)) old new
+pub drafted_then : (old mid new : History) (first : ℕ) → mid.now ≡ old.now → mid.draft ≡ old.draft → HoldsAtEachMoment (MayBeFound old.now) old mid → HoldsAtEachMoment (IsFoundBeforeOr mid (snapshot_of mid.draft first)) mid new
+    → HoldsAtEachMoment (IsFoundBeforeOr old (snapshot_of old.draft first)) old new
 drafted_then old mid new first same parts before after =
-    and_then (FindsOldOr old (snapshot_of old.draft first)) old mid new
-    (weaker (MayFind old.now) (FindsOldOr old (snapshot_of old.draft first)) (λ c may. inl may) old mid before)
-    (weaker (FindsOldOr mid (snapshot_of mid.draft first)) (FindsOldOr old (snapshot_of old.draft first)) (λ c found. found_then old mid first c same parts found) mid new after)
+    and_then (IsFoundBeforeOr old (snapshot_of old.draft first)) old mid new
+    (weaker (MayBeFound old.now) (IsFoundBeforeOr old (snapshot_of old.draft first)) (λ c may. inl may) old mid before)
+    (weaker (IsFoundBeforeOr mid (snapshot_of mid.draft first)) (IsFoundBeforeOr old (snapshot_of old.draft first)) (λ c found. found_then old mid first c same parts found) mid new after)

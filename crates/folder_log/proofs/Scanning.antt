@@ -5,10 +5,10 @@ use Rattle.std.specs.List.{AllByRecursion}
 use Rattle.std.proofs.lemmas.Bool.{and_from, lt-ltb}
 use Rattle.std.proofs.lemmas.List.{append-nil, map-append}
 use Rattle.log_entries.specs.Entries.{Entry}
-use Rattle.change_log.specs.Contents.{Contents, no_contents, snapshot_of, next_number, with_change}
-use Rattle.change_log.specs.Items.{Item, part, first, change, Scan, no_scan, scan_item, scan_items, is_next, contents_if_ended, contents_of}
-use Rattle.folder_log.specs.inner.Steps.{first_entry}
-use Rattle.folder_log.specs.FileForm.{part_entry, change_entry, item_of, contents_in}
+use Rattle.change_log.specs.LogContents.{Contents, no_contents, snapshot_of, next_number, with_change}
+use Rattle.change_log.specs.LogItems.{Item, part, first, change, Scan, no_scan, scan_item, scan_items, is_next_change, contents_if_ended, contents_of}
+use Rattle.folder_log.specs.inner.DraftSteps.{snapshot_end_entry}
+use Rattle.folder_log.specs.FileFormat.{part_entry, change_entry, item_of, contents_of_entries}
 
 abbrev then_item : Item → Option Scan → Option Scan
 then_item i o = elim o [ None ↦ None | Some s ↦ scan_item s i ]
@@ -48,7 +48,7 @@ ended (Some s) c e = ap (λ (t : Scan). Some t) (of_scan s c e)
 next_is : (c : Contents) (bytes : List ℕ) → next_number c < 2 ^ 64 - 1
     → scan_item (record { contents = c; is_ended = true }) (change (next_number c) bytes) ≡ Some (record { contents = with_change bytes c; is_ended = true })
 next_is c bytes left =
-    let is : is_next (record { contents = c; is_ended = true }) (next_number c) ≡ true =
+    let is : is_next_change (record { contents = c; is_ended = true }) (next_number c) ≡ true =
     and_from (next_number c == next_number c) (nat_lt (next_number c) (2 ^ 64 - 1)) (eq-eqb (next_number c) (next_number c) refl) (lt-ltb (next_number c) (2 ^ 64 - 1) left) in
     ap (λ (b : Bool). cond b (Some (record { contents = with_change bytes c; is_ended = true })) None) is
 
@@ -58,8 +58,8 @@ items_push items c bytes leads left =
     ap at_end (scan_push items (change (next_number c) bytes) no_scan ∙ ap (then_item (change (next_number c) bytes)) (ended (scan_items no_scan items) c leads) ∙ next_is c bytes left)
 
 -- one change more
-pub contents_push : (es : List Entry) (c : Contents) (bytes : List ℕ) → contents_in es ≡ Some c → next_number c < 2 ^ 64 - 1
-    → contents_in (es ++ change_entry (next_number c) bytes ∷ []) ≡ Some (with_change bytes c)
+pub contents_push : (es : List Entry) (c : Contents) (bytes : List ℕ) → contents_of_entries es ≡ Some c → next_number c < 2 ^ 64 - 1
+    → contents_of_entries (es ++ change_entry (next_number c) bytes ∷ []) ≡ Some (with_change bytes c)
 contents_push es c bytes leads left =
     ap contents_of (map-append item_of es (change_entry (next_number c) bytes ∷ [])) ∙ items_push (map item_of es) c bytes leads left
 
@@ -71,7 +71,7 @@ parts_scan (bytes ∷ parts) c =
     ∙ ap (λ (l : List (List ℕ)). Some (record { contents = record c { parts = l }; is_ended = false })) (append_assoc c.parts (bytes ∷ []) parts)
 
 -- a snapshot
-pub contents_snapshot : (parts : List (List ℕ)) (number : ℕ) → contents_in (map part_entry parts ++ first_entry number ∷ []) ≡ Some (snapshot_of parts number)
+pub contents_snapshot : (parts : List (List ℕ)) (number : ℕ) → contents_of_entries (map part_entry parts ++ snapshot_end_entry number ∷ []) ≡ Some (snapshot_of parts number)
 contents_snapshot parts number =
-    ap contents_of (map-append item_of (map part_entry parts) (first_entry number ∷ []))
+    ap contents_of (map-append item_of (map part_entry parts) (snapshot_end_entry number ∷ []))
     ∙ ap at_end (scan_push (map item_of (map part_entry parts)) (first number) no_scan ∙ ap (then_item (first number)) (parts_scan parts no_contents))

@@ -1,5 +1,5 @@
-pub mod FileForm
-pub mod Logs
-pub mod Openings
+pub mod FileFormat
+pub mod FolderLogs
+pub mod LogOpenings
 pub mod Restarts
 pub mod inner

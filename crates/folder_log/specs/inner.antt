@@ -1,3 +1,3 @@
 -- Definitions for private functions and proofs. No clause of a public call needs them.
+pub mod DraftSteps
 pub mod Scanners
-pub mod Steps

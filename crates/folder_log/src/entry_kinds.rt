@@ -3,7 +3,7 @@ ghost use Rattle.std.specs.Prelude.{◌≡◌, ◌≤◌, ◌∷◌, [], length,
 ghost use Rattle.log_entries.specs.Entries.{entry_bytes};
 ghost use Rattle.change_log.specs.declared.limits.TheConstants.{MAX_CONTENT_BYTES};
 
-use log_entries::put_entry;
+use log_entries::append_entry;
 use std::alloc::{AllocError, Global};
 
 pub(crate) const PART: u8 = 1;
@@ -28,6 +28,6 @@ pub(crate) fn entry_of_kind(
     content.push(kind)?;
     content.extend_from_slice(bytes)?;
     let mut entry = Vec::new(alloc);
-    put_entry(alloc, &mut entry, mark, number, &content)?;
+    append_entry(alloc, &mut entry, mark, number, &content)?;
     Ok(entry)
 }

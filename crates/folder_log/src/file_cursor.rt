@@ -1,7 +1,7 @@
 // Reads the file of a log from the start.
 ghost use Rattle.std.specs.Prelude.{◌≡◌, ◌≤◌, ◌∷◌, ℕ, List, drop, length, IfOk};
-ghost use Rattle.change_log.specs.Items.{IsItem};
-ghost use Rattle.folder_log.specs.FileForm.{item_of_content};
+ghost use Rattle.change_log.specs.LogItems.{IsReadItem};
+ghost use Rattle.folder_log.specs.FileFormat.{item_of_content};
 ghost use Rattle.folder_log.specs.Restarts.{mark_of};
 
 use crate::entry_kinds::{CHANGE, FIRST, PART};
@@ -44,7 +44,7 @@ pub(crate) fn file_mark(bytes: &[u8]) -> &[u8]
 // What an entry is; its bytes replace those that were there.
 fn read_entry(number: u64, content: &[u8], bytes: &mut Vec<u8>) -> Result<LogItem, AllocError>
     ensures exact { IfOk result (λ item.
-        IsItem item bytes.new.items (item_of_content number content.now)) }
+        IsReadItem item bytes.new.items (item_of_content number content.now)) }
 {
     bytes.clear();
     match content {
@@ -58,7 +58,7 @@ fn read_entry(number: u64, content: &[u8], bytes: &mut Vec<u8>) -> Result<LogIte
 
 fn item_of_kind(kind: u8, number: u64) -> LogItem
     ensures exact { (bytes : List ℕ)
-        → IsItem result bytes (item_of_content number (kind ∷ bytes)) }
+        → IsReadItem result bytes (item_of_content number (kind ∷ bytes)) }
 {
     if kind == PART {
         return LogItem::Part;
@@ -73,9 +73,9 @@ fn item_of_kind(kind: u8, number: u64) -> LogItem
 }
 
 impl LogCursor for FileCursor {
-    ghost use Rattle.folder_log.specs.Openings.{left_in};
+    ghost use Rattle.folder_log.specs.LogOpenings.{remaining_items};
 
-    ghost left = { λ cursor. left_in cursor.bytes.items cursor.at };
+    ghost left = { λ cursor. remaining_items cursor.bytes.items cursor.at };
 
     fn read(&mut self, bytes: &mut Vec<u8>) -> Result<LogItem, AllocError> {
         let Some((number, content, rest)) = entry_at(file_mark(&self.bytes), self.rest()) else {

@@ -3,13 +3,15 @@ ghost use Rattle.std.specs.Prelude.{◌≡◌, ◌≤◌, ◌<◌, ◌+◌, ◌-
 ghost use Rattle.std.specs.Prelude.{OnOk, OnErr, MatchResult};
 ghost use Rattle.log_entries.specs.Entries.{entry_bytes};
 ghost use Rattle.change_log.specs.declared.limits.TheConstants.{MAX_CONTENT_BYTES};
-ghost use Rattle.change_log.specs.Contents.{snapshot_of, with_change};
-ghost use Rattle.change_log.specs.Moments.{holding, with_none_open, with_open, FindsOldOr, MayFind};
-ghost use Rattle.change_log.specs.Moments.{Passes};
-ghost use Rattle.change_log.specs.Logs.{NotAppended};
-ghost use Rattle.folder_log.specs.FileForm.{change_entry};
-ghost use Rattle.folder_log.specs.Logs.{sound, parts_of, log_state};
-ghost use Rattle.folder_log.specs.inner.Steps.{IsEnded, IsReady, SameFields, SameRest};
+ghost use Rattle.change_log.specs.LogContents.{snapshot_of, with_change};
+ghost use Rattle.change_log.specs.LogHistories.{settled_moment, without_open_change};
+ghost use Rattle.change_log.specs.LogHistories.{with_open_change, IsFoundBeforeOr, MayBeFound};
+ghost use Rattle.change_log.specs.LogHistories.{HoldsAtEachMoment};
+ghost use Rattle.change_log.specs.LogStates.{FailsToAppend};
+ghost use Rattle.folder_log.specs.FileFormat.{change_entry};
+ghost use Rattle.folder_log.specs.FolderLogs.{IsSoundLog, parts_of, log_state};
+ghost use Rattle.folder_log.specs.inner.DraftSteps.{HasEndedDraft, HasReadyDraft};
+ghost use Rattle.folder_log.specs.inner.DraftSteps.{KeepsMarksAndNumber, KeepsMarksAndDraft};
 
 use crate::entry_kinds::{CHANGE, FIRST, PART, entry_of_kind};
 use change_log::{AppendFault, ChangeLog, LogHistory, SnapshotFault};
@@ -46,46 +48,46 @@ impl<C: FolderCalls + Drop> FolderLog<C> {
 
     // Takes back what a failed write may have left, and waits until the disk has that. A failed
     // sync is never tried again.
-    fn heal(&mut self) -> Result<(), FolderFault>
-        requires is_sound { sound self.old }
+    fn cut_torn_write(&mut self) -> Result<(), FolderFault>
+        requires is_sound { IsSoundLog self.old }
         requires begun { self.old.is_begun ≡ true }
         requires not_stopped { self.old.is_stopped ≡ false }
         ensures healed { OnOk result ((self.new.is_torn ≡ false) × (self.new.is_stopped ≡ false)) }
         ensures taken_back { OnOk result
-            (self.new.history.log.now ≡ with_none_open self.old.history.log.now) }
+            (self.new.history.log.now ≡ without_open_change self.old.history.log.now) }
         ensures err_same { OnErr result (self.new.history.log.now ≡ self.old.history.log.now) }
         ensures counts { MatchResult result
             (λ _. (log_state (parts_of self.new)).faults ≡ (log_state (parts_of self.old)).faults)
             (λ _. (log_state (parts_of self.old)).faults
             < (log_state (parts_of self.new)).faults) }
-        ensures any_moment { Passes (MayFind self.old.history.log.now)
+        ensures any_moment { HoldsAtEachMoment (MayBeFound self.old.history.log.now)
             self.old.history.log self.new.history.log }
-        ensures same_rest { SameRest (parts_of self.old) (parts_of self.new) }
+        ensures same_rest { KeepsMarksAndDraft (parts_of self.old) (parts_of self.new) }
         ensures same_next { self.new.next ≡ self.old.next }
-        ensures still_sound { sound self.new }
+        ensures still_sound { IsSoundLog self.new }
     {
         if !self.is_torn {
             return Ok(());
         }
         if let Err(FolderFault) = self.disk.cut() {
-            self.history.record_nothing();
+            self.history.record_no_change();
             return Err(FolderFault);
         }
-        self.history.record_nothing();
+        self.history.record_no_change();
         self.is_torn = false;
         if let Err(FolderFault) = self.disk.sync() {
-            self.history.record_nothing();
+            self.history.record_no_change();
             self.is_stopped = true;
             return Err(FolderFault);
         }
-        self.history.record_taken_back();
+        self.history.record_no_open_change();
         Ok(())
     }
 
     // Writes the entry of a change, and waits until the disk has it. What a failed write leaves is
     // taken back at once, if it can be.
     fn commit(&mut self, change: &[u8], entry: &[u8]) -> Result<(), FolderFault>
-        requires is_sound { sound self.old }
+        requires is_sound { IsSoundLog self.old }
         requires begun { self.old.is_begun ≡ true }
         requires not_torn { self.old.is_torn ≡ false }
         requires not_stopped { self.old.is_stopped ≡ false }
@@ -94,33 +96,33 @@ impl<C: FolderCalls + Drop> FolderLog<C> {
         requires is_entry { entry.now
             ≡ entry_bytes self.old.mark (change_entry self.old.next change.now) }
         ensures appended { OnOk result (self.new.history.log.now
-            ≡ holding (with_change change.now self.old.history.log.now.kept)) }
-        ensures not_appended { OnErr result (NotAppended change.now
+            ≡ settled_moment (with_change change.now self.old.history.log.now.kept)) }
+        ensures not_appended { OnErr result (FailsToAppend change.now
             self.old.history.log.now self.new.history.log.now) }
         ensures counts { MatchResult result
             (λ _. (log_state (parts_of self.new)).faults ≡ (log_state (parts_of self.old)).faults)
             (λ _. (log_state (parts_of self.old)).faults
             < (log_state (parts_of self.new)).faults) }
-        ensures any_moment { Passes
-            (FindsOldOr self.old.history.log
+        ensures any_moment { HoldsAtEachMoment
+            (IsFoundBeforeOr self.old.history.log
             (with_change change.now self.old.history.log.now.kept))
             self.old.history.log self.new.history.log }
-        ensures same_rest { SameRest (parts_of self.old) (parts_of self.new) }
-        ensures still_sound { sound self.new }
+        ensures same_rest { KeepsMarksAndDraft (parts_of self.old) (parts_of self.new) }
+        ensures still_sound { IsSoundLog self.new }
     {
         if let Err(FolderFault) = self.disk.write(entry) {
-            self.history.record_open(change);
+            self.history.record_open_change(change);
             self.is_torn = true;
-            let _ = self.heal();
+            let _ = self.cut_torn_write();
             return Err(FolderFault);
         }
-        self.history.record_open(change);
+        self.history.record_open_change(change);
         if let Err(FolderFault) = self.disk.sync() {
-            self.history.record_nothing();
+            self.history.record_no_change();
             self.is_stopped = true;
             return Err(FolderFault);
         }
-        self.history.record_appended(change);
+        self.history.record_appended_change(change);
         self.next += 1;
         Ok(())
     }
@@ -128,63 +130,64 @@ impl<C: FolderCalls + Drop> FolderLog<C> {
     // Ends the draft with this entry, and waits until it is on the disk. The draft is of no further
     // use after an error.
     fn end_draft(&mut self, entry: &[u8]) -> Result<(), FolderFault>
-        requires is_sound { sound self.old }
+        requires is_sound { IsSoundLog self.old }
         requires draft_begun { self.old.has_draft ≡ true }
         requires not_stopped { self.old.is_stopped ≡ false }
-        ensures ended { OnOk result (IsEnded (parts_of self.old) (parts_of self.new) entry.now) }
+        ensures ended { OnOk result
+            (HasEndedDraft (parts_of self.old) (parts_of self.new) entry.now) }
         ensures counts { MatchResult result
             (λ _. (log_state (parts_of self.new)).faults ≡ (log_state (parts_of self.old)).faults)
             (λ _. (log_state (parts_of self.old)).faults
             < (log_state (parts_of self.new)).faults) }
         ensures same_log { self.new.history.log.now ≡ self.old.history.log.now }
         ensures same_parts { self.new.history.log.draft ≡ self.old.history.log.draft }
-        ensures any_moment { Passes (MayFind self.old.history.log.now)
+        ensures any_moment { HoldsAtEachMoment (MayBeFound self.old.history.log.now)
             self.old.history.log self.new.history.log }
-        ensures same_fields { SameFields (parts_of self.old) (parts_of self.new) }
+        ensures same_fields { KeepsMarksAndNumber (parts_of self.old) (parts_of self.new) }
         ensures no_draft { self.new.has_draft ≡ false }
-        ensures still_sound { sound self.new }
+        ensures still_sound { IsSoundLog self.new }
     {
         self.has_draft = false;
         if let Err(FolderFault) = self.disk.write_draft(entry) {
-            self.history.record_nothing();
+            self.history.record_no_change();
             return Err(FolderFault);
         }
-        self.history.record_nothing();
+        self.history.record_no_change();
         if let Err(FolderFault) = self.disk.sync_draft() {
-            self.history.record_nothing();
+            self.history.record_no_change();
             return Err(FolderFault);
         }
-        self.history.record_nothing();
+        self.history.record_no_change();
         Ok(())
     }
 
     // Renames the draft, which is on the disk and ended with this number, and waits until the
     // folder has that.
-    fn replace(&mut self, first: u64) -> Result<(), FolderFault>
-        requires is_sound { sound self.old }
+    fn install_snapshot(&mut self, first: u64) -> Result<(), FolderFault>
+        requires is_sound { IsSoundLog self.old }
         requires not_stopped { self.old.is_stopped ≡ false }
         requires no_draft { self.old.has_draft ≡ false }
-        requires ready { IsReady (parts_of self.old) first }
+        requires ready { HasReadyDraft (parts_of self.old) first }
         ensures replaced { OnOk result (self.new.history.log.now
-            ≡ holding (snapshot_of self.old.history.log.draft first)) }
+            ≡ settled_moment (snapshot_of self.old.history.log.draft first)) }
         ensures begun { OnOk result (self.new.is_begun ≡ true) }
         ensures stopped { OnErr result (self.new.is_stopped ≡ true) }
         ensures same_phase { OnErr result (self.new.is_begun ≡ self.old.is_begun) }
         ensures cause { OnErr result ((log_state (parts_of self.old)).faults
             < (log_state (parts_of self.new)).faults) }
-        ensures any_moment { Passes
-            (FindsOldOr self.old.history.log (snapshot_of self.old.history.log.draft first))
+        ensures any_moment { HoldsAtEachMoment
+            (IsFoundBeforeOr self.old.history.log (snapshot_of self.old.history.log.draft first))
             self.old.history.log self.new.history.log }
-        ensures still_sound { sound self.new }
+        ensures still_sound { IsSoundLog self.new }
     {
         if let Err(FolderFault) = self.disk.rename_draft() {
-            self.history.record_instead(first);
+            self.history.record_possible_snapshot(first);
             self.is_stopped = true;
             return Err(FolderFault);
         }
-        self.history.record_instead(first);
+        self.history.record_possible_snapshot(first);
         if let Err(FolderFault) = self.disk.sync_folder() {
-            self.history.record_nothing();
+            self.history.record_no_change();
             self.is_stopped = true;
             return Err(FolderFault);
         }
@@ -198,11 +201,11 @@ impl<C: FolderCalls + Drop> FolderLog<C> {
 }
 
 impl<C: FolderCalls + Drop> ChangeLog for FolderLog<C> {
-    ghost use Rattle.folder_log.specs.Logs.{sound, parts_of, log_state};
+    ghost use Rattle.folder_log.specs.FolderLogs.{IsSoundLog, parts_of, log_state};
 
     ghost state = { λ log. log_state (parts_of log) };
 
-    ghost sound = { λ log. sound log };
+    ghost sound = { λ log. IsSoundLog log };
 
     fn next_number(&self) -> u64 {
         self.next
@@ -218,7 +221,7 @@ impl<C: FolderCalls + Drop> ChangeLog for FolderLog<C> {
         }
         let entry = entry_of_kind(alloc, &self.mark, self.next, CHANGE, change)?;
         let number = self.next;
-        if let Err(FolderFault) = self.heal() {
+        if let Err(FolderFault) = self.cut_torn_write() {
             return Err(AppendFault::Failed);
         }
         if let Err(FolderFault) = self.commit(change, &entry) {
@@ -239,7 +242,7 @@ impl<C: FolderCalls + Drop> ChangeLog for FolderLog<C> {
                 Ok(())
             }
             Err(FolderFault) => {
-                self.history.record_nothing();
+                self.history.record_no_change();
                 self.has_draft = false;
                 Err(SnapshotFault::NotWritten)
             }
@@ -252,7 +255,7 @@ impl<C: FolderCalls + Drop> ChangeLog for FolderLog<C> {
         }
         let entry = entry_of_kind(alloc, &self.draft_mark, 0, PART, part)?;
         if let Err(FolderFault) = self.disk.write_draft(&entry) {
-            self.history.record_nothing();
+            self.history.record_no_change();
             self.has_draft = false;
             return Err(SnapshotFault::NotWritten);
         }
@@ -268,7 +271,7 @@ impl<C: FolderCalls + Drop> ChangeLog for FolderLog<C> {
         if let Err(FolderFault) = self.end_draft(&entry) {
             return Err(SnapshotFault::NotWritten);
         }
-        if let Err(FolderFault) = self.replace(first) {
+        if let Err(FolderFault) = self.install_snapshot(first) {
             return Err(SnapshotFault::NotSettled);
         }
         Ok(())

@@ -6,62 +6,62 @@ use Rattle.halls.specs.declared.hall.Progress.{Progress}
 use Rattle.halls.specs.declared.hall.Progress.TheVariants.{Moved, Blocked}
 use Rattle.halls.specs.declared.hall.Event.{Event}
 use Rattle.halls.specs.declared.hall.Event.TheVariants.{Knock, Ready, Late, Quiet, Over}
-use Rattle.halls.specs.Calls.{after_close, after_read, after_wait, after_write, begins, broken, closed, first_text, passed_in, passed_out, reported}
-use Rattle.halls.specs.HallState.{ConnectionState, HallState, begun_at, connection_at, with_connection}
-use Rattle.halls.specs.Reports.{IsOpen, MayRead}
+use Rattle.halls.specs.StateChanges.{hall_after_close, hall_after_read, hall_after_wait, hall_after_write, with_next_connection, with_break, with_close, first_text, connection_after_read, connection_after_write, with_report}
+use Rattle.halls.specs.HallState.{ConnectionState, HallState, new_connection, connection_at, with_connection}
+use Rattle.halls.specs.CallResults.{IsOpen, MayRead}
 use Rattle.halls.specs.inner.Clients.{ReadsClient, WritesClient}
-use Rattle.halls.specs.Memory.{ClientState, all_shown, hall_of, new_client, shown, texts_to_come}
-use Rattle.halls.specs.inner.Clients.{client_after_read, client_after_write, client_at, closed_client, connected_at, with_client}
+use Rattle.halls.specs.MemoryHalls.{ClientState, with_client_states, memory_hall_state, new_client, with_client_state, texts_to_come}
+use Rattle.halls.specs.inner.Clients.{client_after_read, client_after_write, client_at, closed_client, connected_client, with_client}
 
 abbrev none : ConnectionState
-none = begun_at 0 None
+none = new_connection 0 None
 
 -- a change of one client, with the change of its connection that it shows
 shown_set : (connections : List ConnectionState) (clients : List ClientState) (n : ℕ) (change : ClientState → ClientState) (f : ConnectionState → ConnectionState)
-    → ((x : ConnectionState) (c : ClientState) → shown (f x) (change c) ≡ f (shown x c))
-    → all_shown (slice_set connections n (f (slice_index_or connections n none))) (slice_set clients n (change (slice_index_or clients n (new_client []))))
-    ≡ slice_set (all_shown connections clients) n (f (slice_index_or (all_shown connections clients) n none))
+    → ((x : ConnectionState) (c : ClientState) → with_client_state (f x) (change c) ≡ f (with_client_state x c))
+    → with_client_states (slice_set connections n (f (slice_index_or connections n none))) (slice_set clients n (change (slice_index_or clients n (new_client []))))
+    ≡ slice_set (with_client_states connections clients) n (f (slice_index_or (with_client_states connections clients) n none))
 shown_set [] clients n change f same = refl
 shown_set (x ∷ connections) [] n change f same = beyond x connections n f where
-  beyond : (x : ConnectionState) (connections : List ConnectionState) (n : ℕ) (f : ConnectionState → ConnectionState) → all_shown (slice_set (x ∷ connections) n (f (slice_index_or (x ∷ connections) n none))) [] ≡ []
+  beyond : (x : ConnectionState) (connections : List ConnectionState) (n : ℕ) (f : ConnectionState → ConnectionState) → with_client_states (slice_set (x ∷ connections) n (f (slice_index_or (x ∷ connections) n none))) [] ≡ []
   beyond x connections zero f = refl
   beyond x connections (suc n) f = refl
-shown_set (x ∷ connections) (c ∷ clients) zero change f same = ap (λ (y : ConnectionState). y ∷ all_shown connections clients) (same x c)
-shown_set (x ∷ connections) (c ∷ clients) (suc n) change f same = ap (λ (ys : List ConnectionState). shown x c ∷ ys) (shown_set connections clients n change f same)
+shown_set (x ∷ connections) (c ∷ clients) zero change f same = ap (λ (y : ConnectionState). y ∷ with_client_states connections clients) (same x c)
+shown_set (x ∷ connections) (c ∷ clients) (suc n) change f same = ap (λ (ys : List ConnectionState). with_client_state x c ∷ ys) (shown_set connections clients n change f same)
 
 -- likewise where no client changes
 shown_same : (connections : List ConnectionState) (clients : List ClientState) (n : ℕ) (f : ConnectionState → ConnectionState)
-    → ((x : ConnectionState) (c : ClientState) → shown (f x) c ≡ f (shown x c))
-    → all_shown (slice_set connections n (f (slice_index_or connections n none))) clients
-    ≡ slice_set (all_shown connections clients) n (f (slice_index_or (all_shown connections clients) n none))
+    → ((x : ConnectionState) (c : ClientState) → with_client_state (f x) c ≡ f (with_client_state x c))
+    → with_client_states (slice_set connections n (f (slice_index_or connections n none))) clients
+    ≡ slice_set (with_client_states connections clients) n (f (slice_index_or (with_client_states connections clients) n none))
 shown_same [] clients n f same = refl
 shown_same (x ∷ connections) [] n f same = beyond x connections n f where
-  beyond : (x : ConnectionState) (connections : List ConnectionState) (n : ℕ) (f : ConnectionState → ConnectionState) → all_shown (slice_set (x ∷ connections) n (f (slice_index_or (x ∷ connections) n none))) [] ≡ []
+  beyond : (x : ConnectionState) (connections : List ConnectionState) (n : ℕ) (f : ConnectionState → ConnectionState) → with_client_states (slice_set (x ∷ connections) n (f (slice_index_or (x ∷ connections) n none))) [] ≡ []
   beyond x connections zero f = refl
   beyond x connections (suc n) f = refl
-shown_same (x ∷ connections) (c ∷ clients) zero f same = ap (λ (y : ConnectionState). y ∷ all_shown connections clients) (same x c)
-shown_same (x ∷ connections) (c ∷ clients) (suc n) f same = ap (λ (ys : List ConnectionState). shown x c ∷ ys) (shown_same connections clients n f same)
+shown_same (x ∷ connections) (c ∷ clients) zero f same = ap (λ (y : ConnectionState). y ∷ with_client_states connections clients) (same x c)
+shown_same (x ∷ connections) (c ∷ clients) (suc n) f same = ap (λ (ys : List ConnectionState). with_client_state x c ∷ ys) (shown_same connections clients n f same)
 
 -- one of the connections shown
 pub shown_at : (connections : List ConnectionState) (clients : List ClientState) (n : ℕ) → n < length connections → length connections ≤ length clients
-    → slice_index_or (all_shown connections clients) n none ≡ shown (slice_index_or connections n none) (client_at clients n)
+    → slice_index_or (with_client_states connections clients) n none ≡ with_client_state (slice_index_or connections n none) (client_at clients n)
 shown_at [] clients n below within = absurd (let no : ⊥ = omega arith in no)
 shown_at (x ∷ connections) [] n below within = absurd (let no : ⊥ = omega arith in no)
 shown_at (x ∷ connections) (c ∷ clients) zero below within = refl
 shown_at (x ∷ connections) (c ∷ clients) (suc n) below within = shown_at connections clients n (omega arith) (omega arith)
 
-pub length-all_shown : (connections : List ConnectionState) (clients : List ClientState) → length connections ≤ length clients → length (all_shown connections clients) ≡ length connections
-length-all_shown [] clients within = refl
-length-all_shown (x ∷ connections) [] within = absurd (let no : ⊥ = omega arith in no)
-length-all_shown (x ∷ connections) (c ∷ clients) within = ap suc (length-all_shown connections clients (omega arith))
+pub length-with_client_states : (connections : List ConnectionState) (clients : List ClientState) → length connections ≤ length clients → length (with_client_states connections clients) ≡ length connections
+length-with_client_states [] clients within = refl
+length-with_client_states (x ∷ connections) [] within = absurd (let no : ⊥ = omega arith in no)
+length-with_client_states (x ∷ connections) (c ∷ clients) within = ap suc (length-with_client_states connections clients (omega arith))
 
 -- one more connection, of the next client
 shown_next : (connections : List ConnectionState) (clients : List ClientState) (next : ConnectionState) (client : ClientState) → length connections < length clients
-    → all_shown (connections ++ next ∷ []) (slice_set clients (length connections) client) ≡ all_shown connections clients ++ shown next client ∷ []
+    → with_client_states (connections ++ next ∷ []) (slice_set clients (length connections) client) ≡ with_client_states connections clients ++ with_client_state next client ∷ []
 shown_next [] [] next client within = absurd (let no : ⊥ = omega arith in no)
 shown_next [] (c ∷ clients) next client within = refl
 shown_next (x ∷ connections) [] next client within = absurd (let no : ⊥ = omega arith in no)
-shown_next (x ∷ connections) (c ∷ clients) next client within = ap (λ (ys : List ConnectionState). shown x c ∷ ys) (shown_next connections clients next client (omega arith))
+shown_next (x ∷ connections) (c ∷ clients) next client within = ap (λ (ys : List ConnectionState). with_client_state x c ∷ ys) (shown_next connections clients next client (omega arith))
 
 -- what is to come, where a change leaves what the client has to send
 texts_kept : (clients : List ClientState) (k n : ℕ) (change : ClientState → ClientState) → ((c : ClientState) → (change c).left ≡ c.left)
@@ -84,16 +84,16 @@ texts_by_count clients connections n x = ap (texts_to_come clients) (length-set 
 
 -- a change of one client that leaves what it has to send
 pub change_shown : (clients : List ClientState) (logged : HallState) (n : ℕ) (change : ClientState → ClientState) (f : ConnectionState → ConnectionState)
-    → ((x : ConnectionState) (c : ClientState) → shown (f x) (change c) ≡ f (shown x c)) → ((c : ClientState) → (change c).left ≡ c.left)
-    → hall_of (with_client clients n change) (with_connection logged n f) ≡ with_connection (hall_of clients logged) n f
+    → ((x : ConnectionState) (c : ClientState) → with_client_state (f x) (change c) ≡ f (with_client_state x c)) → ((c : ClientState) → (change c).left ≡ c.left)
+    → memory_hall_state (with_client clients n change) (with_connection logged n f) ≡ with_connection (memory_hall_state clients logged) n f
 change_shown clients logged n change f same kept =
     together logged _ _ _ _ (shown_set logged.connections clients n change f same)
     (texts_by_count (with_client clients n change) logged.connections n (f (connection_at logged n)) ∙ texts_kept clients (length logged.connections) n change kept)
 
 -- a change of one client that has connected
 pub connected_shown : (clients : List ClientState) (logged : HallState) (n : ℕ) (change : ClientState → ClientState) (f : ConnectionState → ConnectionState)
-    → ((x : ConnectionState) (c : ClientState) → shown (f x) (change c) ≡ f (shown x c)) → n < length logged.connections
-    → hall_of (with_client clients n change) (with_connection logged n f) ≡ with_connection (hall_of clients logged) n f
+    → ((x : ConnectionState) (c : ClientState) → with_client_state (f x) (change c) ≡ f (with_client_state x c)) → n < length logged.connections
+    → memory_hall_state (with_client clients n change) (with_connection logged n f) ≡ with_connection (memory_hall_state clients logged) n f
 connected_shown clients logged n change f same below =
     together logged _ _ _ _ (shown_set logged.connections clients n change f same)
     (texts_by_count (with_client clients n change) logged.connections n (f (connection_at logged n))
@@ -101,70 +101,70 @@ connected_shown clients logged n change f same below =
 
 -- a change of a connection that no client shows
 pub logged_shown : (clients : List ClientState) (logged : HallState) (n : ℕ) (f : ConnectionState → ConnectionState)
-    → ((x : ConnectionState) (c : ClientState) → shown (f x) c ≡ f (shown x c))
-    → hall_of clients (with_connection logged n f) ≡ with_connection (hall_of clients logged) n f
+    → ((x : ConnectionState) (c : ClientState) → with_client_state (f x) c ≡ f (with_client_state x c))
+    → memory_hall_state clients (with_connection logged n f) ≡ with_connection (memory_hall_state clients logged) n f
 logged_shown clients logged n f same =
     together logged _ _ _ _ (shown_same logged.connections clients n f same) (texts_by_count clients logged.connections n (f (connection_at logged n)))
 
 pub read_shown : {E : Type 0} (clients : List ClientState) (logged : HallState) (n : ℕ) (buf : List ℕ) (result : Result Progress E) → IfOk result (λ _. n < length logged.connections)
-    → hall_of (with_client clients n (client_after_read result)) (after_read n buf result logged) ≡ after_read n buf result (hall_of clients logged)
-read_shown {E} clients logged n buf (Ok (Moved count)) below = connected_shown clients logged n (client_after_read {E = E} (Ok (Moved count))) (λ x. passed_in {E = E} buf (Ok (Moved count)) (record x { reads = x.reads + 1 })) (λ x c. refl) below
-read_shown {E} clients logged n buf (Ok Blocked) below = change_shown clients logged n (client_after_read {E = E} (Ok Blocked)) (λ x. passed_in {E = E} buf (Ok Blocked) (record x { reads = x.reads + 1 })) (λ x c. refl) (λ c. refl)
-read_shown {E} clients logged n buf (Err e) below = change_shown clients logged n (client_after_read {E = E} (Err e)) (λ x. passed_in {E = E} buf (Err e) (record x { reads = x.reads + 1 })) (λ x c. refl) (λ c. refl)
+    → memory_hall_state (with_client clients n (client_after_read result)) (hall_after_read n buf result logged) ≡ hall_after_read n buf result (memory_hall_state clients logged)
+read_shown {E} clients logged n buf (Ok (Moved count)) below = connected_shown clients logged n (client_after_read {E = E} (Ok (Moved count))) (λ x. connection_after_read {E = E} buf (Ok (Moved count)) (record x { reads = x.reads + 1 })) (λ x c. refl) below
+read_shown {E} clients logged n buf (Ok Blocked) below = change_shown clients logged n (client_after_read {E = E} (Ok Blocked)) (λ x. connection_after_read {E = E} buf (Ok Blocked) (record x { reads = x.reads + 1 })) (λ x c. refl) (λ c. refl)
+read_shown {E} clients logged n buf (Err e) below = change_shown clients logged n (client_after_read {E = E} (Err e)) (λ x. connection_after_read {E = E} buf (Err e) (record x { reads = x.reads + 1 })) (λ x c. refl) (λ c. refl)
 
 pub write_shown : {E : Type 0} (clients : List ClientState) (logged : HallState) (n : ℕ) (piece : List ℕ) (result : Result Progress E)
-    → hall_of (with_client clients n (client_after_write piece result)) (after_write n piece result logged) ≡ after_write n piece result (hall_of clients logged)
-write_shown {E} clients logged n piece (Ok (Moved count)) = change_shown clients logged n (client_after_write {E = E} piece (Ok (Moved count))) (λ x. passed_out {E = E} piece (Ok (Moved count)) (record x { writes = x.writes + 1 })) (λ x c. refl) (λ c. refl)
-write_shown {E} clients logged n piece (Ok Blocked) = change_shown clients logged n (client_after_write {E = E} piece (Ok Blocked)) (λ x. passed_out {E = E} piece (Ok Blocked) (record x { writes = x.writes + 1 })) (λ x c. refl) (λ c. refl)
-write_shown {E} clients logged n piece (Err e) = change_shown clients logged n (client_after_write {E = E} piece (Err e)) (λ x. passed_out {E = E} piece (Err e) (record x { writes = x.writes + 1 })) (λ x c. refl) (λ c. refl)
+    → memory_hall_state (with_client clients n (client_after_write piece result)) (hall_after_write n piece result logged) ≡ hall_after_write n piece result (memory_hall_state clients logged)
+write_shown {E} clients logged n piece (Ok (Moved count)) = change_shown clients logged n (client_after_write {E = E} piece (Ok (Moved count))) (λ x. connection_after_write {E = E} piece (Ok (Moved count)) (record x { writes = x.writes + 1 })) (λ x c. refl) (λ c. refl)
+write_shown {E} clients logged n piece (Ok Blocked) = change_shown clients logged n (client_after_write {E = E} piece (Ok Blocked)) (λ x. connection_after_write {E = E} piece (Ok Blocked) (record x { writes = x.writes + 1 })) (λ x c. refl) (λ c. refl)
+write_shown {E} clients logged n piece (Err e) = change_shown clients logged n (client_after_write {E = E} piece (Err e)) (λ x. connection_after_write {E = E} piece (Err e) (record x { writes = x.writes + 1 })) (λ x c. refl) (λ c. refl)
 
-pub close_shown : (clients : List ClientState) (logged : HallState) (n : ℕ) → hall_of (with_client clients n closed_client) (after_close n logged) ≡ after_close n (hall_of clients logged)
-close_shown clients logged n = change_shown clients logged n closed_client closed (λ x c. refl) (λ c. refl)
+pub close_shown : (clients : List ClientState) (logged : HallState) (n : ℕ) → memory_hall_state (with_client clients n closed_client) (hall_after_close n logged) ≡ hall_after_close n (memory_hall_state clients logged)
+close_shown clients logged n = change_shown clients logged n closed_client with_close (λ x c. refl) (λ c. refl)
 
-pub wait_shown : {E : Type 0} (clients : List ClientState) (logged : HallState) (result : Result Event E) → hall_of clients (after_wait result logged) ≡ after_wait result (hall_of clients logged)
+pub wait_shown : {E : Type 0} (clients : List ClientState) (logged : HallState) (result : Result Event E) → memory_hall_state clients (hall_after_wait result logged) ≡ hall_after_wait result (memory_hall_state clients logged)
 wait_shown clients logged (Ok Knock) = refl
-wait_shown clients logged (Ok (Ready id)) = logged_shown clients (record logged { waits = logged.waits + 1 }) id.number reported (λ x c. refl)
-wait_shown clients logged (Ok (Late id)) = logged_shown clients (record logged { waits = logged.waits + 1 }) id.number broken (λ x c. refl)
+wait_shown clients logged (Ok (Ready id)) = logged_shown clients (record logged { waits = logged.waits + 1 }) id.number with_report (λ x c. refl)
+wait_shown clients logged (Ok (Late id)) = logged_shown clients (record logged { waits = logged.waits + 1 }) id.number with_break (λ x c. refl)
 wait_shown clients logged (Ok Quiet) = refl
 wait_shown clients logged (Ok Over) = refl
 wait_shown clients logged (Err e) = refl
 
 -- the next client connects
 pub begins_shown : (clients : List ClientState) (logged : HallState) (place : ℕ) → length logged.connections < length clients
-    → hall_of (with_client clients (length logged.connections) (connected_at place)) (begins place logged) ≡ begins place (hall_of clients logged)
+    → memory_hall_state (with_client clients (length logged.connections) (connected_client place)) (with_next_connection place logged) ≡ with_next_connection place (memory_hall_state clients logged)
 begins_shown clients logged place below =
     let k : ℕ = length logged.connections in
-    let next : ConnectionState = begun_at place (option_map first_text logged.to_come) in
-    let client : ClientState = connected_at place (client_at clients k) in
+    let next : ConnectionState = new_connection place (option_map first_text logged.to_come) in
+    let client : ClientState = connected_client place (client_at clients k) in
     let more : drop k clients ≡ client_at clients k ∷ drop (k + 1) clients = drop_more clients k (new_client []) below in
     let texts : texts_to_come clients k ≡ (client_at clients k).left ∷ texts_to_come clients (k + 1) = ap (map (λ (c : ClientState). c.left)) more in
     together logged _ _ _ _
     (shown_next logged.connections clients next client below
-    ∙ ap (λ (left : List ℕ). all_shown logged.connections clients ++ begun_at place (Some left) ∷ []) (sym (ap first_text texts)))
-    (ap (texts_to_come (with_client clients k (connected_at place))) (length_push logged.connections next)
+    ∙ ap (λ (left : List ℕ). with_client_states logged.connections clients ++ new_connection place (Some left) ∷ []) (sym (ap first_text texts)))
+    (ap (texts_to_come (with_client clients k (connected_client place))) (length_push logged.connections next)
     ∙ ap (map (λ (c : ClientState). c.left)) (drop-set-lt (k + 1) clients k client (omega arith))
     ∙ sym (ap (drop 1) texts))
 
 -- as many connections are shown as began
-pub shown_count : (begun : ℕ) (clients : List ClientState) (logged : HallState) → begun ≡ length logged.connections → begun ≤ length clients → length (all_shown logged.connections clients) ≡ begun
-shown_count begun clients logged counted within = length-all_shown logged.connections clients (omega (arith, counted, within)) ∙ sym counted
+pub shown_count : (begun : ℕ) (clients : List ClientState) (logged : HallState) → begun ≡ length logged.connections → begun ≤ length clients → length (with_client_states logged.connections clients) ≡ begun
+shown_count begun clients logged counted within = length-with_client_states logged.connections clients (omega (arith, counted, within)) ∙ sym counted
 
 -- the connection of a client that has connected
 shown_client : (begun n : ℕ) (clients : List ClientState) (logged : HallState) (x : ClientState) → begun ≡ length logged.connections → begun ≤ length clients → n < begun
-    → x ≡ slice_index_or clients n x → connection_at (hall_of clients logged) n ≡ shown (connection_at logged n) x
+    → x ≡ slice_index_or clients n x → connection_at (memory_hall_state clients logged) n ≡ with_client_state (connection_at logged n) x
 shown_client begun n clients logged x counted within below is =
     shown_at logged.connections clients n (omega (arith, counted, below)) (omega (arith, counted, within))
-    ∙ ap (shown (connection_at logged n)) (sym (get_or_read clients n x (omega (arith, below, within)) is (new_client [])))
+    ∙ ap (with_client_state (connection_at logged n)) (sym (get_or_read clients n x (omega (arith, below, within)) is (new_client [])))
 
-pub none_beyond : {A : Type 0} (begun n : ℕ) (clients : List ClientState) (logged : HallState) → begun ≡ length logged.connections → begun ≤ length clients → begun ≤ n → n < length (all_shown logged.connections clients) → A
+pub none_beyond : {A : Type 0} (begun n : ℕ) (clients : List ClientState) (logged : HallState) → begun ≡ length logged.connections → begun ≤ length clients → begun ≤ n → n < length (with_client_states logged.connections clients) → A
 none_beyond begun n clients logged counted within beyond below = absurd (let count = shown_count begun clients logged counted within in let no : ⊥ = omega (arith, count, beyond, below) in no)
 
 pub closed_shown : (begun n : ℕ) (clients : List ClientState) (logged : HallState) (x : ClientState) (test : Bool) → begun ≡ length logged.connections → begun ≤ length clients → n < begun
-    → x ≡ slice_index_or clients n x → test ≡ x.closed → test ≡ true → (connection_at (hall_of clients logged) n).closed ≡ true
+    → x ≡ slice_index_or clients n x → test ≡ x.closed → test ≡ true → (connection_at (memory_hall_state clients logged) n).closed ≡ true
 closed_shown begun n clients logged x test counted within below is tested closed = ap (λ (c : ConnectionState). c.closed) (shown_client begun n clients logged x counted within below is) ∙ sym tested ∙ closed
 
 pub open_shown : (begun n place : ℕ) (clients : List ClientState) (logged : HallState) (x : ClientState) (test : Bool) → begun ≡ length logged.connections → begun ≤ length clients → n < begun
-    → x ≡ slice_index_or clients n x → test ≡ x.closed → test ≡ false → place ≡ x.place → IsOpen (hall_of clients logged) (record { place = place; number = n })
+    → x ≡ slice_index_or clients n x → test ≡ x.closed → test ≡ false → place ≡ x.place → IsOpen (memory_hall_state clients logged) (record { place = place; number = n })
 open_shown begun n place clients logged x test counted within below is tested still at =
     let same = shown_client begun n clients logged x counted within below is in
     record {
@@ -175,9 +175,9 @@ open_shown begun n place clients logged x test counted within below is tested st
 
 -- a read of a client, as the hall makes it
 pub read_of_hall : {E : Type 0} (begun n : ℕ) (clients clients' : List ClientState) (logged logged' : HallState) (buf : List ℕ) (result : Result Progress E) → begun ≡ length logged.connections
-    → ReadsClient begun clients clients' n buf result → logged' ≡ after_read n buf result logged → hall_of clients' logged' ≡ after_read n buf result (hall_of clients logged)
+    → ReadsClient begun clients clients' n buf result → logged' ≡ hall_after_read n buf result logged → memory_hall_state clients' logged' ≡ hall_after_read n buf result (memory_hall_state clients logged)
 read_of_hall {E} begun n clients clients' logged logged' buf result counted reads is =
-    ap (λ (cs : List ClientState). hall_of cs logged') reads.changed ∙ ap (hall_of (with_client clients n (client_after_read result))) is
+    ap (λ (cs : List ClientState). memory_hall_state cs logged') reads.changed ∙ ap (memory_hall_state (with_client clients n (client_after_read result))) is
     ∙ read_shown clients logged n buf result (connected result reads.connected) where
       connected : (result : Result Progress E) → IfOk result (λ _. n < begun) → IfOk result (λ _. n < length logged.connections)
       connected (Ok x) below = omega (arith, below, counted)
@@ -185,7 +185,7 @@ read_of_hall {E} begun n clients clients' logged logged' buf result counted read
 
 -- the bytes that it gives
 pub next_of_hall : {E : Type 0} (begun n : ℕ) (clients clients' : List ClientState) (logged : HallState) (buf : List ℕ) (result : Result Progress E) → begun ≡ length logged.connections → begun ≤ length clients
-    → n < length (all_shown logged.connections clients) → ReadsClient begun clients clients' n buf result → MayRead (connection_at (hall_of clients logged) n).left buf result
+    → n < length (with_client_states logged.connections clients) → ReadsClient begun clients clients' n buf result → MayRead (connection_at (memory_hall_state clients logged) n).left buf result
 next_of_hall begun n clients clients' logged buf result counted within below reads =
     let count = shown_count begun clients logged counted within in
     let same = shown_at logged.connections clients n (omega (arith, counted, count, below)) (omega (arith, counted, within)) in
@@ -193,29 +193,29 @@ next_of_hall begun n clients clients' logged buf result counted within below rea
 
 -- a write to a client, as the hall makes it
 pub write_of_hall : {E : Type 0} (n : ℕ) (clients clients' : List ClientState) (logged logged' : HallState) (piece : List ℕ) (result : Result Progress E)
-    → WritesClient clients clients' n piece result → logged' ≡ after_write n piece result logged → hall_of clients' logged' ≡ after_write n piece result (hall_of clients logged)
+    → WritesClient clients clients' n piece result → logged' ≡ hall_after_write n piece result logged → memory_hall_state clients' logged' ≡ hall_after_write n piece result (memory_hall_state clients logged)
 write_of_hall n clients clients' logged logged' piece result writes is =
-    ap (λ (cs : List ClientState). hall_of cs logged') writes.changed ∙ ap (hall_of (with_client clients n (client_after_write piece result))) is ∙ write_shown clients logged n piece result
+    ap (λ (cs : List ClientState). memory_hall_state cs logged') writes.changed ∙ ap (memory_hall_state (with_client clients n (client_after_write piece result))) is ∙ write_shown clients logged n piece result
 
-pub close_of_hall : (n : ℕ) (clients clients' : List ClientState) (logged logged' : HallState) → clients' ≡ with_client clients n closed_client → logged' ≡ after_close n logged
-    → hall_of clients' logged' ≡ after_close n (hall_of clients logged)
+pub close_of_hall : (n : ℕ) (clients clients' : List ClientState) (logged logged' : HallState) → clients' ≡ with_client clients n closed_client → logged' ≡ hall_after_close n logged
+    → memory_hall_state clients' logged' ≡ hall_after_close n (memory_hall_state clients logged)
 close_of_hall n clients clients' logged logged' changed is =
-    ap (λ (cs : List ClientState). hall_of cs logged') changed ∙ ap (hall_of (with_client clients n closed_client)) is ∙ close_shown clients logged n
+    ap (λ (cs : List ClientState). memory_hall_state cs logged') changed ∙ ap (memory_hall_state (with_client clients n closed_client)) is ∙ close_shown clients logged n
 
 -- the next client connects, as the hall accepts it
 pub accept_of_hall : (begun place : ℕ) (clients : List ClientState) (logged logged' : HallState) (x y : ClientState) → begun ≡ length logged.connections → begun < length clients
-    → x ≡ slice_index_or clients begun x → y ≡ connected_at place x → logged' ≡ begins place (record logged { accepts = logged.accepts + 1 })
-    → hall_of (slice_set clients begun y) logged' ≡ begins place (record (hall_of clients logged) { accepts = logged.accepts + 1 })
+    → x ≡ slice_index_or clients begun x → y ≡ connected_client place x → logged' ≡ with_next_connection place (record logged { accepts = logged.accepts + 1 })
+    → memory_hall_state (slice_set clients begun y) logged' ≡ with_next_connection place (record (memory_hall_state clients logged) { accepts = logged.accepts + 1 })
 accept_of_hall begun place clients logged logged' x y counted below is connects logs =
     let next : HallState = record logged { accepts = logged.accepts + 1 } in
-    let same : y ≡ connected_at place (client_at clients begun) = connects ∙ ap (connected_at place) (get_or_read clients begun x below is (new_client [])) in
-    ap (λ (c : ClientState). hall_of (slice_set clients begun c) logged') same
-    ∙ ap (hall_of (with_client clients begun (connected_at place))) logs
-    ∙ ap (λ (n : ℕ). hall_of (with_client clients n (connected_at place)) (begins place next)) counted
+    let same : y ≡ connected_client place (client_at clients begun) = connects ∙ ap (connected_client place) (get_or_read clients begun x below is (new_client [])) in
+    ap (λ (c : ClientState). memory_hall_state (slice_set clients begun c) logged') same
+    ∙ ap (memory_hall_state (with_client clients begun (connected_client place))) logs
+    ∙ ap (λ (n : ℕ). memory_hall_state (with_client clients n (connected_client place)) (with_next_connection place next)) counted
     ∙ begins_shown clients next place (omega (arith, counted, below))
 
 pub next_is_named : (begun place : ℕ) (clients : List ClientState) (logged : HallState) → begun ≡ length logged.connections → begun < length clients
-    → (place ≡ place) × (begun ≡ length (all_shown logged.connections clients)) × (0 < length (texts_to_come clients (length logged.connections)))
+    → (place ≡ place) × (begun ≡ length (with_client_states logged.connections clients)) × (0 < length (texts_to_come clients (length logged.connections)))
 next_is_named begun place clients logged counted below = (
   refl,
   sym (shown_count begun clients logged counted (omega (arith, below))),
@@ -225,7 +225,7 @@ next_is_named begun place clients logged counted below = (
 )
 
 -- a wait, as the hall makes it
-pub wait_of_hall : {E : Type 0} (clients clients' : List ClientState) (logged mid logged' : HallState) (result : Result Event E) → clients' ≡ clients → mid ≡ logged → logged' ≡ after_wait result mid
-    → hall_of clients' logged' ≡ after_wait result (hall_of clients logged)
+pub wait_of_hall : {E : Type 0} (clients clients' : List ClientState) (logged mid logged' : HallState) (result : Result Event E) → clients' ≡ clients → mid ≡ logged → logged' ≡ hall_after_wait result mid
+    → memory_hall_state clients' logged' ≡ hall_after_wait result (memory_hall_state clients logged)
 wait_of_hall clients clients' logged mid logged' result same also is =
-    ap (λ (cs : List ClientState). hall_of cs logged') same ∙ ap (hall_of clients) is ∙ ap (λ (hall : HallState). hall_of clients (after_wait result hall)) also ∙ wait_shown clients logged result
+    ap (λ (cs : List ClientState). memory_hall_state cs logged') same ∙ ap (memory_hall_state clients) is ∙ ap (λ (hall : HallState). memory_hall_state clients (hall_after_wait result hall)) also ∙ wait_shown clients logged result

@@ -41,8 +41,8 @@ pub record HallState : Type 0 where
   pub faults : ℕ
 
 -- a connection over which nothing has passed, at this place, with these bytes left to read
-abbrev pub begun_at : ℕ → Option (List ℕ) → ConnectionState
-begun_at place left =
+abbrev pub new_connection : ℕ → Option (List ℕ) → ConnectionState
+new_connection place left =
     record {
       place = place;
       given = [];
@@ -71,7 +71,7 @@ new_hall =
 
 -- the connection of this number; where there is none, one over which nothing has passed
 abbrev pub connection_at : HallState → ℕ → ConnectionState
-connection_at hall n = slice_index_or hall.connections n (begun_at 0 None)
+connection_at hall n = slice_index_or hall.connections n (new_connection 0 None)
 
 -- the hall, with the connection of this number changed; unchanged where there is none
 abbrev pub with_connection : HallState → ℕ → (ConnectionState → ConnectionState) → HallState

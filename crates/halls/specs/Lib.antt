@@ -1,5 +1,5 @@
-pub mod Calls
+pub mod CallResults
 pub mod HallState
-pub mod Memory
-pub mod Reports
+pub mod MemoryHalls
+pub mod StateChanges
 pub mod inner

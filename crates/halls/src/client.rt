@@ -1,9 +1,9 @@
 // Clients in memory, which send what they are told to, when they are told to.
 ghost use Rattle.std.specs.Prelude.{◌≡◌, ◌<◌, Some, length};
 ghost use Rattle.halls.specs.inner.Clients.{client_after_read, client_after_write, closed_client};
-ghost use Rattle.halls.specs.Memory.{new_client};
-ghost use Rattle.halls.specs.inner.Clients.{connected_at};
-ghost use Rattle.halls.specs.Reports.{MayRead, MayWrite};
+ghost use Rattle.halls.specs.MemoryHalls.{new_client};
+ghost use Rattle.halls.specs.inner.Clients.{connected_client};
+ghost use Rattle.halls.specs.CallResults.{MayRead, MayWrite};
 
 use crate::hall::Progress;
 use std::alloc::Global;
@@ -47,7 +47,7 @@ pub struct Client {
 
 impl Model for Client {
     ghost use Rattle.std.specs.Prelude.{◌≤◌, drop, length};
-    ghost use Rattle.halls.specs.Memory.{ClientState};
+    ghost use Rattle.halls.specs.MemoryHalls.{ClientState};
 
     ghost Value = { ClientState };
 
@@ -99,7 +99,7 @@ impl Client {
 
     // Connects, at this place.
     pub(crate) fn connect(&mut self, place: usize)
-        ensures connects { self.new ≡ connected_at place self.old }
+        ensures connects { self.new ≡ connected_client place self.old }
     {
         self.output.clear();
         self.place = place;
@@ -113,7 +113,7 @@ impl Client {
     }
 
     // Does what the move says of it.
-    pub(crate) fn follow(&mut self, step: Move)
+    pub(crate) fn make_move(&mut self, step: Move)
         ensures unchanged { self.new ≡ self.old }
     {
         match step {

@@ -1,14 +1,14 @@
 // Connections in memory, for tests and for programs over known bytes.
 ghost use Rattle.std.specs.Prelude.{◌≡◌, ◌<◌, ◌≤◌, false, length, option_copied, slice_get};
 ghost use Rattle.halls.specs.HallState.{new_hall};
-ghost use Rattle.halls.specs.Memory.{hall_of};
+ghost use Rattle.halls.specs.MemoryHalls.{memory_hall_state};
 ghost use Rattle.halls.specs.inner.Clients.{closed_client, with_client};
-ghost use Rattle.halls.specs.Reports.{MayReport, MayWrite};
-ghost use Rattle.halls.specs.inner.Clients.{OpenFrom, OpenOrNot, ReadsClient, WritesClient};
+ghost use Rattle.halls.specs.CallResults.{MayReport, MayWrite};
+ghost use Rattle.halls.specs.inner.Clients.{IsOpenFrom, IsOpenOrNone, ReadsClient, WritesClient};
 
 use crate::client::{Client, Move};
 use crate::hall::{ConnectionId, Event, Hall, Progress};
-use crate::log::{Call, HallLog};
+use crate::hall_log::{Call, HallLog};
 use xcap_io::Failed;
 
 /// A hall to which clients in memory connect, in order. Moves are made first, one in each wait;
@@ -28,14 +28,14 @@ pub struct MemHall {
 }
 
 // Does what the move says of this client, if it is there.
-fn follow_at(clients: &mut Vec<Client>, number: usize, step: Move)
+fn make_move_at(clients: &mut Vec<Client>, number: usize, step: Move)
     ensures unchanged { clients.new.items ≡ clients.old.items }
 {
     if number >= clients.len() {
         return;
     }
     let client = &mut clients[number];
-    client.follow(step);
+    client.make_move(step);
 }
 
 // One read of the client of this number, of which the first have connected.
@@ -93,7 +93,8 @@ impl MemHall {
     /// A hall to which these clients connect, in order, and where these moves are made first. Does
     /// not allocate.
     pub fn new(clients: Vec<Client>, moves: Vec<Move>) -> MemHall
-        ensures exact { ⟦<MemHall as Hall>⟧.state result ≡ hall_of clients.items new_hall }
+        ensures exact { ⟦<MemHall as Hall>⟧.state result
+            ≡ memory_hall_state clients.items new_hall }
         ensures clients { result.clients.items ≡ clients.items }
     {
         MemHall {
@@ -115,7 +116,7 @@ impl MemHall {
 
     // The connection of this number, if it is open.
     fn open_connection(&self, number: usize) -> Option<ConnectionId>
-        ensures open_or_not { OpenOrNot (⟦<MemHall as Hall>⟧.state self.now) number result }
+        ensures open_or_not { IsOpenOrNone (⟦<MemHall as Hall>⟧.state self.now) number result }
     {
         if number >= self.begun {
             return None;
@@ -131,8 +132,8 @@ impl MemHall {
     }
 
     // The first open connection from this number on.
-    fn open_from(&self, from: usize) -> Option<ConnectionId>
-        ensures open_or_none { OpenFrom (⟦<MemHall as Hall>⟧.state self.now) from result }
+    fn first_open_from(&self, from: usize) -> Option<ConnectionId>
+        ensures open_or_none { IsOpenFrom (⟦<MemHall as Hall>⟧.state self.now) from result }
     {
         for number in from..self.begun {
             if let Some(id) = self.open_connection(number) {
@@ -144,12 +145,12 @@ impl MemHall {
 
     // The next open connection in the round.
     fn next_open(&self) -> Option<ConnectionId>
-        ensures open_or_none { OpenFrom (⟦<MemHall as Hall>⟧.state self.now) 0 result }
+        ensures open_or_none { IsOpenFrom (⟦<MemHall as Hall>⟧.state self.now) 0 result }
     {
-        if let Some(id) = self.open_from(self.from) {
+        if let Some(id) = self.first_open_from(self.from) {
             return Some(id);
         }
-        self.open_from(0)
+        self.first_open_from(0)
     }
 
     // Makes a move that is about one client.
@@ -159,7 +160,7 @@ impl MemHall {
         ensures same_clients { self.new.clients.items ≡ self.old.clients.items }
         ensures same_log { self.new.log.state ≡ self.old.log.state }
     {
-        follow_at(&mut self.clients, number, step);
+        make_move_at(&mut self.clients, number, step);
         let Some(id) = self.open_connection(number) else {
             return Event::Quiet;
         };
@@ -170,7 +171,7 @@ impl MemHall {
     }
 
     // The next event after the last move.
-    fn go_round(&mut self) -> Event
+    fn next_in_round(&mut self) -> Event
         ensures truthful { MayReport {E = Failed} (⟦<MemHall as Hall>⟧.state self.old) false
             (Ok result) }
         ensures same_clients { self.new.clients.items ≡ self.old.clients.items }
@@ -185,7 +186,7 @@ impl MemHall {
         };
         let number = id.number as usize;
         self.from = number.saturating_add(1);
-        follow_at(&mut self.clients, number, Move::Flows(number));
+        make_move_at(&mut self.clients, number, Move::Flows(number));
         Event::Ready(id)
     }
 
@@ -200,7 +201,7 @@ impl MemHall {
             if comes {
                 return Ok(Event::Knock);
             }
-            return Ok(self.go_round());
+            return Ok(self.next_in_round());
         };
         let step = *step;
         self.next += 1;
@@ -219,22 +220,24 @@ impl MemHall {
 }
 
 impl Hall for MemHall {
-    ghost state = { λ h. hall_of h.clients.items h.log.state };
+    ghost state = { λ h. memory_hall_state h.clients.items h.log.state };
 
     fn listen(&mut self, address: &str) -> Result<(), Failed> {
-        self.log = self.log.then(&Call::Listen(address.as_bytes(), Ok(())));
+        self.log = self
+            .log
+            .with_call(&Call::Listen(address.as_bytes(), Ok(())));
         Ok(())
     }
 
     fn wait(&mut self, takes_more: bool) -> Result<Event, Failed> {
         let result = self.next_event(takes_more);
-        self.log = self.log.then(&Call::Wait(result));
+        self.log = self.log.with_call(&Call::Wait(result));
         result
     }
 
     fn accept(&mut self, place: usize) -> Result<Option<ConnectionId>, Failed> {
         if self.begun == self.clients.len() {
-            self.log = self.log.then(&Call::Accept(place, Ok(None)));
+            self.log = self.log.with_call(&Call::Accept(place, Ok(None)));
             return Ok(None);
         }
         let client = &mut self.clients[self.begun];
@@ -242,25 +245,25 @@ impl Hall for MemHall {
         let number = self.begun as u64;
         let id = ConnectionId { place, number };
         self.begun += 1;
-        self.log = self.log.then(&Call::Accept(place, Ok(Some(id))));
+        self.log = self.log.with_call(&Call::Accept(place, Ok(Some(id))));
         Ok(Some(id))
     }
 
     fn read(&mut self, id: ConnectionId, buf: &mut [u8]) -> Result<Progress, Failed> {
         let result = read_client(&mut self.clients, self.begun, id.number, buf);
-        self.log = self.log.then(&Call::Read(id, buf, result));
+        self.log = self.log.with_call(&Call::Read(id, buf, result));
         result
     }
 
     fn write(&mut self, id: ConnectionId, piece: &[u8]) -> Result<Progress, Failed> {
         let result = write_client(&mut self.clients, self.begun, id.number, piece);
-        self.log = self.log.then(&Call::Write(id, piece, result));
+        self.log = self.log.with_call(&Call::Write(id, piece, result));
         result
     }
 
     fn close(&mut self, id: ConnectionId) {
         close_client(&mut self.clients, id.number);
-        self.log = self.log.then(&Call::Close(id));
+        self.log = self.log.with_call(&Call::Close(id));
     }
 
     fn defer(&mut self, id: ConnectionId) {

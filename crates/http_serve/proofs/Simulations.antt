@@ -1,17 +1,17 @@
 -- Simulation: where each step of one machine is a step of the other on related states, so is what
 -- either does on connections.
 use Rattle.std.proofs.Common.{◌≡◌, ℕ, ◌+◌, inl, inr, List, [], ◌∷◌, length, Option, refl, sym, subst}
-use Rattle.xcap_io.specs.Causes.{StreamState}
-use Rattle.xcap_io.specs.Histories.{Traffic}
+use Rattle.xcap_io.specs.StreamStates.{StreamState}
+use Rattle.xcap_io.specs.ConnectionHistories.{Traffic}
 use Rattle.http_wire.specs.declared.request.Request.{Request}
-use Rattle.http_wire.specs.Items.{Item, asks, bad, too_long, coded}
-use Rattle.http_wire.specs.ServedConnections.{PendingInput, ItemAnswer, RunAnswer, Closes, no_more, last_item, no_memory, EndsBy, GoesOn, Run, Serves, ServesEach, AnswersItem as Answers}
+use Rattle.http_wire.specs.ConnectionItems.{Item, asks, bad, too_long, coded}
+use Rattle.http_wire.specs.ServedConnections.{PendingInput, ItemAnswer, RequestsAnswer, ClosesConnection, no_more, last_item, no_memory, EndsConnection, KeepsConnectionOpen, AnswersRequests, ServesConnection, ServesEach, AnswersItem as Answers}
 use Rattle.http_wire.specs.declared.close_reason.CloseReason.TheVariants.{Closed, ReadFailed, WriteFailed}
 use Rattle.http_wire.specs.declared.close_reason.CloseReason.{CloseReason}
 use Rattle.http_serve.specs.declared.accept_loop.ServeSummary.{ServeSummary}
-use Rattle.http_serve.specs.Connections.{ServesStream}
+use Rattle.http_serve.specs.ServedStreams.{ServesStream}
 use Rattle.http_serve.specs.FixedReplies.{fixed_reply}
-use Rattle.http_serve.specs.Ports.{ServesPort}
+use Rattle.http_serve.specs.ServedPorts.{ServesPort}
 
 module _ {S M E : Type 0} (Steps : S → Request → List ℕ → S → Option E → Type 0) (Step : M → Request → List ℕ → M → Option E → Type 0) (fixed_reply : ℕ → List ℕ) (Stands : S → M → Type 0)
     (step : (s s' : S) (m : M) (request : Request) (reply : List ℕ) (edit : Option E) → Stands s m → Steps s request reply s' edit → (m' : M) × Stands s' m' × Step m request reply m' edit) where
@@ -28,28 +28,28 @@ module _ {S M E : Type 0} (Steps : S → Request → List ℕ → S → Option E
   abbrev item_answer : ItemAnswer S E → M → ItemAnswer M E
   item_answer a m = record { written = a.written; next = m; edit = a.edit }
 
-  abbrev run_answer : RunAnswer S E → M → RunAnswer M E
+  abbrev run_answer : RequestsAnswer S E → M → RequestsAnswer M E
   run_answer a m = record { written = a.written; edits = a.edits; next = m; rest = a.rest }
 
-  runs : (before : ℕ) (requests : List Request) (s : S) (m : M) (bytes : List ℕ) (a : RunAnswer S E) → Stands s m → Run Steps fixed_reply before s bytes requests a
-      → (m' : M) × Stands a.next m' × Run Step fixed_reply before m bytes requests (run_answer a m')
+  runs : (before : ℕ) (requests : List Request) (s : S) (m : M) (bytes : List ℕ) (a : RequestsAnswer S E) → Stands s m → AnswersRequests Steps fixed_reply before s bytes requests a
+      → (m' : M) × Stands a.next m' × AnswersRequests Step fixed_reply before m bytes requests (run_answer a m')
   runs before [] s m bytes a stands run = (m, stays s a.next m stands run.2, (run.0, run.1, refl, run.3))
   runs before (request ∷ requests) s m bytes a stands (behind, reply, mid, edit, more, later, asked, kept, stepped, wrote, all_told, run) =
       let one = step s mid m request reply edit stands stepped in
       let others = runs (before + 1) requests mid one.0 behind (record a { written = more; edits = later }) one.1 run in
       (others.0, others.1, (behind, reply, one.0, edit, more, later, asked, kept, one.2, wrote, all_told, others.2))
 
-  closes : (input : PendingInput) (s : S) (m : M) (a : ItemAnswer S E) → Stands s m → Closes Steps fixed_reply input s a → (m' : M) × Stands a.next m' × Closes Step fixed_reply input m (item_answer a m')
+  closes : (input : PendingInput) (s : S) (m : M) (a : ItemAnswer S E) → Stands s m → ClosesConnection Steps fixed_reply input s a → (m' : M) × Stands a.next m' × ClosesConnection Step fixed_reply input m (item_answer a m')
   closes input s m a stands (no_more none end wrote same unchanged) = (m, stays s a.next m stands same, no_more none end wrote refl unchanged)
   closes input s m a stands (last_item item first ends answer) =
       let o = answers item s a.next m a.written a.edit stands answer in (o.0, o.1, last_item item first ends o.2)
   closes input s m a stands (no_memory request rest asked wrote same unchanged) = (m, stays s a.next m stands same, no_memory request rest asked wrote refl unchanged)
 
-  goes_on : (input : PendingInput) (s : S) (m : M) (a : ItemAnswer S E) (rest : List ℕ) → Stands s m → GoesOn Steps fixed_reply input s a rest → (m' : M) × Stands a.next m' × GoesOn Step fixed_reply input m (item_answer a m') rest
+  goes_on : (input : PendingInput) (s : S) (m : M) (a : ItemAnswer S E) (rest : List ℕ) → Stands s m → KeepsConnectionOpen Steps fixed_reply input s a rest → (m' : M) × Stands a.next m' × KeepsConnectionOpen Step fixed_reply input m (item_answer a m') rest
   goes_on input s m a rest stands g =
       let one = step s a.next m g.request a.written a.edit stands g.step in (one.0, one.1, record { request = g.request; asked = g.asked; stays = g.stays; step = one.2 })
 
-  ends : (ending : CloseReason) (input : PendingInput) (s : S) (m : M) (a : ItemAnswer S E) → Stands s m → EndsBy Steps fixed_reply ending input s a → (m' : M) × Stands a.next m' × EndsBy Step fixed_reply ending input m (item_answer a m')
+  ends : (ending : CloseReason) (input : PendingInput) (s : S) (m : M) (a : ItemAnswer S E) → Stands s m → EndsConnection Steps fixed_reply ending input s a → (m' : M) × Stands a.next m' × EndsConnection Step fixed_reply ending input m (item_answer a m')
   ends Closed input s m a stands e = closes input s m a stands e
   ends ReadFailed input s m a stands e = (m, stays s a.next m stands e.2, (e.0, e.1, refl, e.3))
   ends WriteFailed input s m a stands (reply, n, cut, wrote, inl e) =
@@ -58,8 +58,8 @@ module _ {S M E : Type 0} (Steps : S → Request → List ℕ → S → Option E
       let g = goes_on input s m (record a { written = reply }) rest stands e in (g.0, g.1, (reply, n, cut, wrote, inr (rest, g.2)))
 
   -- one connection
-  pub serves : (ending : CloseReason) (s s' : S) (m : M) (passed : Traffic) (edits : List E) → Stands s m → Serves Steps fixed_reply ending s passed s' edits
-      → (m' : M) × Stands s' m' × Serves Step fixed_reply ending m passed m' edits
+  pub serves : (ending : CloseReason) (s s' : S) (m : M) (passed : Traffic) (edits : List E) → Stands s m → ServesConnection Steps fixed_reply ending s passed s' edits
+      → (m' : M) × Stands s' m' × ServesConnection Step fixed_reply ending m passed m' edits
   serves ending s s' m passed edits stands v =
       let r = runs 0 v.requests s m passed.given (record { written = v.replies; edits = v.early; next = v.mid; rest = v.behind }) stands v.run in
       let e = ends ending (record { before = length v.requests; given = v.behind; ended = passed.ended }) v.mid r.0 (record { written = v.last; next = s'; edit = v.edit }) r.1 v.ends in

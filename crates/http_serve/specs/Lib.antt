@@ -1,8 +1,8 @@
-pub mod Connections
-pub mod Endings
+pub mod FaultCounts
 pub mod FixedReplies
-pub mod Ports
 pub mod ReadRequests
 pub mod ReplyBytes
+pub mod ServedPorts
+pub mod ServedStreams
 pub mod ServingStates
 pub mod inner

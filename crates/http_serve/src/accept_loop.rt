@@ -1,7 +1,7 @@
 //! The accept loop: the connections of a port, served one after the other.
 ghost use Rattle.std.specs.Prelude.{◌*◌};
-ghost use Rattle.http_serve.specs.Ports.{ServesPort};
-ghost use Rattle.http_serve.specs.ReplyBytes.{InBytes};
+ghost use Rattle.http_serve.specs.ServedPorts.{ServesPort};
+ghost use Rattle.http_serve.specs.ReplyBytes.{StepsInBytes};
 
 use crate::connection::serve_stream;
 use crate::connection_buffers::ConnectionBuffers;
@@ -40,7 +40,7 @@ pub fn serve_streams<M: Machine, P: Port, W: Watchers<M::Edit>>(
     watchers: &mut W,
 ) -> ServeSummary
     requires room_left { M.takes machine.old (count * 1000) }
-    ensures serves_port { ServesPort (InBytes M.steps) W.keeps
+    ensures serves_port { ServesPort (StepsInBytes M.steps) W.keeps
         (record { most = count; served = result })
         (record { machine = machine.old; stream = P.state port.old; watchers = watchers.old })
         (record { machine = machine.new; stream = P.state port.new; watchers = watchers.new }) }

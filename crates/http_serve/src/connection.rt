@@ -1,15 +1,16 @@
 //! Serves one connection to its end.
 ghost use Rattle.std.specs.Prelude.{◌≡◌, ◌≢◌, ℕ, suc, ◌+◌, true, false, None, IsTrue, MatchOption};
 ghost use Rattle.std.specs.Prelude.{option_to_list};
-ghost use Rattle.reply_text.specs.ReplyHeads.{plain};
+ghost use Rattle.reply_text.specs.ReplyHeads.{plain_reply};
 ghost use Rattle.reply_text.specs.Statuses.{is_status};
 ghost use Rattle.http_wire.specs.NextRequests.{fresh_request_reader};
-ghost use Rattle.http_serve.specs.Connections.{ServesStream};
-ghost use Rattle.http_serve.specs.Endings.{KeepsTheRest};
-ghost use Rattle.http_serve.specs.inner.Endings.{FaultsByEnding};
-ghost use Rattle.http_serve.specs.ReadRequests.{IsRead};
-ghost use Rattle.http_serve.specs.inner.Turns.{AnswersAsked, AsksRead, KeepsOpen, ConnectionTurn};
-ghost use Rattle.http_serve.specs.ReplyBytes.{InBytes};
+ghost use Rattle.http_serve.specs.ServedStreams.{ServesStream};
+ghost use Rattle.http_serve.specs.FaultCounts.{OnlyExchangesBytes};
+ghost use Rattle.http_serve.specs.inner.OpenFaultCounts.{CountsFaultOfEnding};
+ghost use Rattle.http_serve.specs.ReadRequests.{IsReadRequest};
+ghost use Rattle.http_serve.specs.inner.ConnectionTurns.{AnswersNextRequest, IsNoneOrReadRequest};
+ghost use Rattle.http_serve.specs.inner.ConnectionTurns.{KeepsOpen, ConnectionTurn};
+ghost use Rattle.http_serve.specs.ReplyBytes.{StepsInBytes};
 
 use crate::connection_buffers::ConnectionBuffers;
 use crate::machine::{Machine, MachineReply};
@@ -23,7 +24,7 @@ use xcap_io::{Failed, Line, Sink, Source};
 fn closing_reply<E>(status: u16) -> MachineReply<E>
     requires valid_status { IsTrue (is_status status) }
     requires plain_status { (status ≢ 304) × (status ≢ 405) × (status ≢ 409) }
-    ensures fixed_reply { result.reply ≡ plain status true }
+    ensures fixed_reply { result.reply ≡ plain_reply status true }
     ensures no_change { result.edit ≡ None }
 {
     MachineReply {
@@ -34,9 +35,9 @@ fn closing_reply<E>(status: u16) -> MachineReply<E>
 
 // The machine's reply; when out of memory the fixed 503.
 fn answer_request<M: Machine>(machine: &mut M, request: &Request) -> MachineReply<M::Edit>
-    requires request_read { IsRead request.now }
+    requires request_read { IsReadRequest request.now }
     requires room_left { M.takes machine.old 1 }
-    ensures machine_reply { AnswersAsked (InBytes M.steps) machine.old
+    ensures machine_reply { AnswersNextRequest (StepsInBytes M.steps) machine.old
         (Asked.Request request.now) result.reply result.edit machine.new }
     ensures takes_one_fewer { (n : ℕ) → M.takes machine.old (suc n) → M.takes machine.new n }
 {
@@ -47,13 +48,13 @@ fn answer_request<M: Machine>(machine: &mut M, request: &Request) -> MachineRepl
 }
 
 // The reply to the reader's result; None at the end of the connection.
-fn answer_to<M: Machine>(machine: &mut M, asked: &Asked) -> Option<MachineReply<M::Edit>>
-    requires request_read { AsksRead asked.now }
+fn answer_next<M: Machine>(machine: &mut M, asked: &Asked) -> Option<MachineReply<M::Edit>>
+    requires request_read { IsNoneOrReadRequest asked.now }
     requires room_left { M.takes machine.old 1 }
     ensures request_answer { MatchOption result
         ((asked.now ≡ Asked.End) × (machine.new ≡ machine.old))
-        (λ answered. AnswersAsked
-        (InBytes M.steps) machine.old asked.now answered.reply answered.edit machine.new) }
+        (λ answered. AnswersNextRequest
+        (StepsInBytes M.steps) machine.old asked.now answered.reply answered.edit machine.new) }
     ensures takes_one_fewer { (n : ℕ) → M.takes machine.old (suc n) → M.takes machine.new n }
 {
     match asked {
@@ -67,7 +68,7 @@ fn answer_to<M: Machine>(machine: &mut M, asked: &Asked) -> Option<MachineReply<
 }
 
 // Notifies the watchers of an edit, if there is one.
-fn tell_of<E, W: Watchers<E>>(watchers: &mut W, edit: &Option<E>)
+fn notify_of_edit<E, W: Watchers<E>>(watchers: &mut W, edit: &Option<E>)
     ensures notifies_watchers { W.keeps (option_to_list edit.now) watchers.old watchers.new }
 {
     let Some(edit) = edit else {
@@ -86,7 +87,7 @@ fn serve_next<M: Machine, L: Source + Sink, W: Watchers<M::Edit>>(
 ) -> Option<CloseReason>
     requires open_still { buffers.old.request_reader.spent ≡ false }
     requires room_left { M.takes machine.old 1 }
-    ensures makes_one_turn { ConnectionTurn (InBytes M.steps) W.keeps result
+    ensures makes_one_turn { ConnectionTurn (StepsInBytes M.steps) W.keeps result
         (record {
           request_reader = buffers.old.request_reader;
           machine = machine.old;
@@ -101,18 +102,18 @@ fn serve_next<M: Machine, L: Source + Sink, W: Watchers<M::Edit>>(
         }) }
     ensures goes_on { result ≡ None
         → KeepsOpen buffers.old.request_reader buffers.new.request_reader }
-    ensures counts_faults { FaultsByEnding result (L.state line.old) (L.state line.new) }
-    ensures this_stream_alone { KeepsTheRest (L.state line.old) (L.state line.new) }
+    ensures counts_faults { CountsFaultOfEnding result (L.state line.old) (L.state line.new) }
+    ensures this_stream_alone { OnlyExchangesBytes (L.state line.old) (L.state line.new) }
     ensures takes_one_fewer { (n : ℕ) → M.takes machine.old (suc n) → M.takes machine.new n }
 {
     let asked = match next_request(buffers.alloc, line, &mut buffers.request_reader) {
         Ok(asked) => asked,
         Err(ReadFault) => return Some(CloseReason::ReadFailed),
     };
-    let Some(answered) = answer_to(machine, &asked) else {
+    let Some(answered) = answer_next(machine, &asked) else {
         return Some(CloseReason::Closed);
     };
-    tell_of(watchers, &answered.edit);
+    notify_of_edit(watchers, &answered.edit);
     match write_reply_through(line, &mut buffers.write_buffer, &answered.reply) {
         Ok(()) => {}
         Err(Failed) => return Some(CloseReason::WriteFailed),
@@ -124,7 +125,7 @@ fn serve_next<M: Machine, L: Source + Sink, W: Watchers<M::Edit>>(
 }
 
 // The turns of a new connection, until one ends it.
-fn serve_turns<M: Machine, L: Source + Sink, W: Watchers<M::Edit>>(
+fn serve_requests<M: Machine, L: Source + Sink, W: Watchers<M::Edit>>(
     machine: &mut M,
     buffers: &mut ConnectionBuffers,
     line: &mut L,
@@ -132,7 +133,7 @@ fn serve_turns<M: Machine, L: Source + Sink, W: Watchers<M::Edit>>(
 ) -> CloseReason
     requires fresh { buffers.old.request_reader ≡ fresh_request_reader }
     requires room_left { M.takes machine.old 1000 }
-    ensures serves_turns { ServesStream (InBytes M.steps) W.keeps result
+    ensures serves_turns { ServesStream (StepsInBytes M.steps) W.keeps result
         (record { machine = machine.old; stream = L.state line.old; watchers = watchers.old })
         (record { machine = machine.new; stream = L.state line.new; watchers = watchers.new }) }
     ensures takes_on { (n : ℕ) → M.takes machine.old (n + 1000) → M.takes machine.new n }
@@ -156,11 +157,11 @@ pub fn serve_stream<M: Machine, L: Source + Sink, W: Watchers<M::Edit>>(
     watchers: &mut W,
 ) -> CloseReason
     requires room_left { M.takes machine.old 1000 }
-    ensures serves_stream { ServesStream (InBytes M.steps) W.keeps result
+    ensures serves_stream { ServesStream (StepsInBytes M.steps) W.keeps result
         (record { machine = machine.old; stream = L.state line.old; watchers = watchers.old })
         (record { machine = machine.new; stream = L.state line.new; watchers = watchers.new }) }
     ensures takes_on { (n : ℕ) → M.takes machine.old (n + 1000) → M.takes machine.new n }
 {
     buffers.request_reader.reset();
-    serve_turns(machine, buffers, line, watchers)
+    serve_requests(machine, buffers, line, watchers)
 }

@@ -2,7 +2,7 @@
 ghost use Rattle.std.specs.Prelude.{◌≡◌, ℕ, suc, Option, IfOk, OnErr};
 ghost use Rattle.reply_text.specs.ReplyHeads.{SentReply};
 ghost use Rattle.http_wire.specs.declared.request.Request.{Request as TheRequest};
-ghost use Rattle.http_serve.specs.ReadRequests.{IsRead};
+ghost use Rattle.http_serve.specs.ReadRequests.{IsReadRequest};
 
 use http_wire::Request;
 use reply_text::Reply;
@@ -32,7 +32,7 @@ pub trait Machine {
     /// # Errors
     /// `NoMemory` when out of memory; the state is then unchanged.
     fn answer(&mut self, request: &Request) -> Result<MachineReply<Self::Edit>, AllocError>
-        requires request_read { IsRead request.now }
+        requires request_read { IsReadRequest request.now }
         requires room_left { takes self.old 1 }
         ensures makes_step { IfOk result
             (λ answered. steps self.old request.now answered.reply self.new answered.edit) }

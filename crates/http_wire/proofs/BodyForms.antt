@@ -12,7 +12,7 @@ use Rattle.httparse.specs.Ascii.{line_feed, carriage_return, semicolon, crlf_byt
 use Rattle.httparse.specs.Grammar.{ChunkLine, print_extension, chunk_size, is_ows, is_value_byte}
 use Rattle.http_wire.specs.declared.chunk_decoder.ChunkState.{ChunkState}
 use Rattle.http_wire.specs.declared.chunk_decoder.ChunkState.TheVariants.{Size, Blank, Extension, SizeEnd, Data, DataEnd, Trailers, Trailer, TrailerEnd, LastEnd, Done, Bad, TooLong}
-use Rattle.http_wire.specs.ChunkedBodies.{line_text, print_line, IsLine, Chunk, print_chunk, IsChunk, print_chunks, IsTrailer, print_trailer, print_trailers, ChunkedBody, print_body, IsBody, PassesLimit, chunk_data as joined}
+use Rattle.http_wire.specs.ChunkedBodies.{chunk_line_text, print_chunk_line, IsChunkLine, Chunk, print_chunk, IsChunk, print_chunks, IsTrailer, print_trailer, print_trailers, ChunkedBody, print_chunked_body, IsChunkedBody, ExceedsBodyLimit, chunk_data as joined}
 
 -- the bytes are complete chunks, which give the body, and then the tail
 pub record Behind (body raw tail : List ℕ) : Type 0 where
@@ -37,10 +37,10 @@ pub record InDigits (count value : ℕ) (body raw : List ℕ) : Type 0 where
 -- a chunk line up to its line end, or to some place after its digits
 pub record InLine (extension : Option (List ℕ)) (value len : ℕ) (tail body raw : List ℕ) : Type 0 where
   pub line : ChunkLine
-  pub behind : Behind body raw (line_text line ++ tail)
-  pub is : IsLine line
+  pub behind : Behind body raw (chunk_line_text line ++ tail)
+  pub is : IsChunkLine line
   pub extended : line.extension ≡ extension
-  pub many : len ≡ length (line_text line)
+  pub many : len ≡ length (chunk_line_text line)
   pub value_is : value ≡ capped (chunk_size line)
 
 -- a chunk of which n bytes are missing
@@ -49,11 +49,11 @@ pub record InData (left : ℕ) (body raw : List ℕ) : Type 0 where
   pub line : ChunkLine
   pub got : List ℕ
   pub are : AllByRecursion IsChunk chunks
-  pub is : IsLine line
+  pub is : IsChunkLine line
   pub gives : joined chunks ++ got ≡ body
   pub sized : chunk_size line ≡ length got + left
   pub some : 0 < chunk_size line
-  pub reads : raw ≡ print_chunks chunks ++ (print_line line ++ got)
+  pub reads : raw ≡ print_chunks chunks ++ (print_chunk_line line ++ got)
 
 -- a complete chunk except its line feed
 pub record AtDataEnd (body raw : List ℕ) : Type 0 where
@@ -69,18 +69,18 @@ pub record InTrailers (trailers : List (List ℕ)) (tail body raw : List ℕ) : 
   pub chunks : List Chunk
   pub last : ChunkLine
   pub are : AllByRecursion IsChunk chunks
-  pub is : IsLine last
+  pub is : IsChunkLine last
   pub ends : chunk_size last ≡ 0
   pub trailers_are : AllByRecursion IsTrailer trailers
   pub gives : joined chunks ≡ body
-  pub reads : raw ≡ print_chunks chunks ++ (print_line last ++ (print_trailers trailers ++ tail))
+  pub reads : raw ≡ print_chunks chunks ++ (print_chunk_line last ++ (print_trailers trailers ++ tail))
 
 -- a complete body, or one except its line feed
 pub record IsWhole (body raw : List ℕ) : Type 0 where
   pub whole : ChunkedBody
-  pub is : IsBody whole
+  pub is : IsChunkedBody whole
   pub gives : joined whole.chunks ≡ body
-  pub reads : raw ≡ print_body whole
+  pub reads : raw ≡ print_chunked_body whole
 
 abbrev pub Stands : ChunkState → List ℕ → List ℕ → Type 0
 Stands (Size count value) body raw = InDigits count value body raw
@@ -95,7 +95,7 @@ Stands (TrailerEnd used) body raw = (trailers : List (List ℕ)) × (text : List
 Stands LastEnd body raw = IsWhole body (raw ++ line_feed ∷ [])
 Stands Done body raw = IsWhole body raw
 Stands Bad body raw = ⊤
-Stands TooLong body raw = PassesLimit raw
+Stands TooLong body raw = ExceedsBodyLimit raw
 
 -- one byte more at the end of the tail
 behind_more : (body raw tail : List ℕ) (b : ℕ) → Behind body raw tail → Behind body (raw ++ b ∷ []) (tail ++ b ∷ [])
@@ -135,8 +135,8 @@ all-push P (x ∷ xs) y all is = (all.0, all-push P xs y all.1 is)
 pub digits_line : (count value : ℕ) (body raw : List ℕ) → InDigits count value body raw → 0 < count → InLine None value count [] body raw
 digits_line count value body raw at some =
     let line : ChunkLine = record { digits = at.digits; pad = []; extension = None } in
-    let text : at.digits ≡ line_text line ++ [] = sym (append-nil (line_text line) ∙ append-nil at.digits) in
-    let long : length (line_text line) ≡ count = ap length (append-nil at.digits) ∙ at.many in
+    let text : at.digits ≡ chunk_line_text line ++ [] = sym (append-nil (chunk_line_text line) ∙ append-nil at.digits) in
+    let long : length (chunk_line_text line) ≡ count = ap length (append-nil at.digits) ∙ at.many in
     record {
       line = line;
       behind = subst (Behind body raw) text at.behind;
@@ -146,7 +146,7 @@ digits_line count value body raw at some =
         digits = at.are;
         pad = refl;
         extension = refl;
-        short = omega (arith, length-append (line_text line) crlf_bytes, long, at.few);
+        short = omega (arith, length-append (chunk_line_text line) crlf_bytes, long, at.few);
       };
       extended = refl;
       many = sym long;
@@ -154,7 +154,7 @@ digits_line count value body raw at some =
     }
 
 -- one more blank
-blank_text : (l : ChunkLine) (b : ℕ) → l.extension ≡ None → (line_text l ++ []) ++ b ∷ [] ≡ line_text (record { digits = l.digits; pad = l.pad ++ b ∷ []; extension = None }) ++ []
+blank_text : (l : ChunkLine) (b : ℕ) → l.extension ≡ None → (chunk_line_text l ++ []) ++ b ∷ [] ≡ chunk_line_text (record { digits = l.digits; pad = l.pad ++ b ∷ []; extension = None }) ++ []
 blank_text l b none =
     let no_text : print_extension l.extension ≡ [] = ap print_extension none in
     ap (λ (t : List ℕ). ((l.digits ++ (l.pad ++ t)) ++ []) ++ b ∷ []) no_text ∙ simp (append-nil, append_assoc)
@@ -164,17 +164,17 @@ more_blanks value len b body raw at short is =
     let l = at.line in
     let line : ChunkLine = record { digits = l.digits; pad = l.pad ++ b ∷ []; extension = None } in
     let text = blank_text l b at.extended in
-    let long : length (line_text line) ≡ len + 1 = omega (arith, ap length text, length-append (line_text l ++ []) (b ∷ []), length-append (line_text l) [], length-append (line_text line) [], at.many) in
+    let long : length (chunk_line_text line) ≡ len + 1 = omega (arith, ap length text, length-append (chunk_line_text l ++ []) (b ∷ []), length-append (chunk_line_text l) [], length-append (chunk_line_text line) [], at.many) in
     record {
       line = line;
-      behind = subst (Behind body (raw ++ b ∷ [])) text (behind_more body raw (line_text l ++ []) b at.behind);
+      behind = subst (Behind body (raw ++ b ∷ [])) text (behind_more body raw (chunk_line_text l ++ []) b at.behind);
       is = record {
         some = at.is.some;
         few = at.is.few;
         digits = at.is.digits;
         pad = list_all-push is_ows l.pad b at.is.pad is;
         extension = refl;
-        short = omega (arith, length-append (line_text line) crlf_bytes, long);
+        short = omega (arith, length-append (chunk_line_text line) crlf_bytes, long);
       };
       extended = refl;
       many = sym long;
@@ -182,7 +182,7 @@ more_blanks value len b body raw at short is =
     }
 
 -- the mark of an extension, or one more byte of it
-extension_texts : (l : ChunkLine) (b : ℕ) (text : List ℕ) → l.extension ≡ Some text → (line_text l ++ []) ++ b ∷ [] ≡ line_text (record { digits = l.digits; pad = l.pad; extension = Some (text ++ b ∷ []) }) ++ []
+extension_texts : (l : ChunkLine) (b : ℕ) (text : List ℕ) → l.extension ≡ Some text → (chunk_line_text l ++ []) ++ b ∷ [] ≡ chunk_line_text (record { digits = l.digits; pad = l.pad; extension = Some (text ++ b ∷ []) }) ++ []
 extension_texts l b text some =
     let texts : print_extension l.extension ≡ semicolon ∷ text = ap print_extension some in
     ap (λ (t : List ℕ). ((l.digits ++ (l.pad ++ t)) ++ []) ++ b ∷ []) texts ∙ simp (append-nil, append_assoc)
@@ -192,24 +192,24 @@ more_extension value len b text body raw at short is =
     let l = at.line in
     let line : ChunkLine = record { digits = l.digits; pad = l.pad; extension = Some (text ++ b ∷ []) } in
     let texts = extension_texts l b text at.extended in
-    let long : length (line_text line) ≡ len + 1 = omega (arith, ap length texts, length-append (line_text l ++ []) (b ∷ []), length-append (line_text l) [], length-append (line_text line) [], at.many) in
+    let long : length (chunk_line_text line) ≡ len + 1 = omega (arith, ap length texts, length-append (chunk_line_text l ++ []) (b ∷ []), length-append (chunk_line_text l) [], length-append (chunk_line_text line) [], at.many) in
     record {
       line = line;
-      behind = subst (Behind body (raw ++ b ∷ [])) texts (behind_more body raw (line_text l ++ []) b at.behind);
+      behind = subst (Behind body (raw ++ b ∷ [])) texts (behind_more body raw (chunk_line_text l ++ []) b at.behind);
       is = record {
         some = at.is.some;
         few = at.is.few;
         digits = at.is.digits;
         pad = at.is.pad;
         extension = list_all-push is_value_byte text b (subst (λ (e : Option (List ℕ)). IsTrue (list_all is_value_byte (unwrap_or e []))) at.extended at.is.extension) is;
-        short = omega (arith, length-append (line_text line) crlf_bytes, long);
+        short = omega (arith, length-append (chunk_line_text line) crlf_bytes, long);
       };
       extended = refl;
       many = sym long;
       value_is = at.value_is;
     }
 
-mark_text : (l : ChunkLine) → l.extension ≡ None → (line_text l ++ []) ++ semicolon ∷ [] ≡ line_text (record { digits = l.digits; pad = l.pad; extension = Some [] }) ++ []
+mark_text : (l : ChunkLine) → l.extension ≡ None → (chunk_line_text l ++ []) ++ semicolon ∷ [] ≡ chunk_line_text (record { digits = l.digits; pad = l.pad; extension = Some [] }) ++ []
 mark_text l none =
     let no_text : print_extension l.extension ≡ [] = ap print_extension none in
     ap (λ (t : List ℕ). ((l.digits ++ (l.pad ++ t)) ++ []) ++ semicolon ∷ []) no_text ∙ simp (append-nil, append_assoc)
@@ -219,17 +219,17 @@ mark value len body raw at short =
     let l = at.line in
     let line : ChunkLine = record { digits = l.digits; pad = l.pad; extension = Some [] } in
     let text = mark_text l at.extended in
-    let long : length (line_text line) ≡ len + 1 = omega (arith, ap length text, length-append (line_text l ++ []) (semicolon ∷ []), length-append (line_text l) [], length-append (line_text line) [], at.many) in
+    let long : length (chunk_line_text line) ≡ len + 1 = omega (arith, ap length text, length-append (chunk_line_text l ++ []) (semicolon ∷ []), length-append (chunk_line_text l) [], length-append (chunk_line_text line) [], at.many) in
     record {
       line = line;
-      behind = subst (Behind body (raw ++ semicolon ∷ [])) text (behind_more body raw (line_text l ++ []) semicolon at.behind);
+      behind = subst (Behind body (raw ++ semicolon ∷ [])) text (behind_more body raw (chunk_line_text l ++ []) semicolon at.behind);
       is = record {
         some = at.is.some;
         few = at.is.few;
         digits = at.is.digits;
         pad = at.is.pad;
         extension = refl;
-        short = omega (arith, length-append (line_text line) crlf_bytes, long);
+        short = omega (arith, length-append (chunk_line_text line) crlf_bytes, long);
       };
       extended = refl;
       many = sym long;
@@ -239,7 +239,7 @@ mark value len body raw at short =
 pub line_end : (extension : Option (List ℕ)) (value len : ℕ) (body raw : List ℕ) → InLine extension value len [] body raw → InLine extension value len (carriage_return ∷ []) body (raw ++ carriage_return ∷ [])
 line_end extension value len body raw at = record {
   line = at.line;
-  behind = subst (Behind body (raw ++ carriage_return ∷ [])) (ap (λ (t : List ℕ). t ++ carriage_return ∷ []) (append-nil (line_text at.line))) (behind_more body raw (line_text at.line ++ []) carriage_return at.behind);
+  behind = subst (Behind body (raw ++ carriage_return ∷ [])) (ap (λ (t : List ℕ). t ++ carriage_return ∷ []) (append-nil (chunk_line_text at.line))) (behind_more body raw (chunk_line_text at.line ++ []) carriage_return at.behind);
   is = at.is;
   extended = at.extended;
   many = at.many;
@@ -247,7 +247,7 @@ line_end extension value len body raw at = record {
 }
 
 -- the line feed of a chunk line
-fed_line : (chunks : List Chunk) (line : ChunkLine) (raw rest : List ℕ) → raw ≡ print_chunks chunks ++ (line_text line ++ carriage_return ∷ []) → (raw ++ line_feed ∷ []) ++ rest ≡ print_chunks chunks ++ (print_line line ++ rest)
+fed_line : (chunks : List Chunk) (line : ChunkLine) (raw rest : List ℕ) → raw ≡ print_chunks chunks ++ (chunk_line_text line ++ carriage_return ∷ []) → (raw ++ line_feed ∷ []) ++ rest ≡ print_chunks chunks ++ (print_chunk_line line ++ rest)
 fed_line chunks line raw rest reads = ap (λ (l : List ℕ). (l ++ line_feed ∷ []) ++ rest) reads ∙ simp append_assoc
 
 pub to_trailers : (extension : Option (List ℕ)) (value len : ℕ) (body raw : List ℕ) → InLine extension value len (carriage_return ∷ []) body raw → value ≡ 0 → InTrailers [] [] body (raw ++ line_feed ∷ [])
@@ -275,7 +275,7 @@ to_data extension value len body raw at some fits = record {
   reads = sym (append-nil (raw ++ line_feed ∷ [])) ∙ fed_line at.behind.chunks at.line raw [] at.behind.reads;
 }
 
-pub to_limit : (extension : Option (List ℕ)) (value len : ℕ) (body raw : List ℕ) → InLine extension value len (carriage_return ∷ []) body raw → 262_144 < length body + value → PassesLimit (raw ++ line_feed ∷ [])
+pub to_limit : (extension : Option (List ℕ)) (value len : ℕ) (body raw : List ℕ) → InLine extension value len (carriage_return ∷ []) body raw → 262_144 < length body + value → ExceedsBodyLimit (raw ++ line_feed ∷ [])
 to_limit extension value len body raw at over = record {
   chunks = at.behind.chunks;
   line = at.line;
@@ -355,7 +355,7 @@ trailer_done trailers text body raw at is = record {
   reads =
       ap (λ (l : List ℕ). l ++ line_feed ∷ []) at.reads
       ∙ (simp append_assoc)
-      ∙ ap (λ (l : List ℕ). print_chunks at.chunks ++ (print_line at.last ++ l)) (sym (print_trailers-push trailers text) ∙ sym (append-nil (print_trailers (trailers ++ text ∷ []))));
+      ∙ ap (λ (l : List ℕ). print_chunks at.chunks ++ (print_chunk_line at.last ++ l)) (sym (print_trailers-push trailers text) ∙ sym (append-nil (print_trailers (trailers ++ text ∷ []))));
 }
 
 pub to_last_end : (trailers : List (List ℕ)) (body raw : List ℕ) → InTrailers trailers [] body raw → length (print_trailers trailers) ≤ 16_384 → IsWhole body ((raw ++ carriage_return ∷ []) ++ line_feed ∷ [])

@@ -11,19 +11,19 @@ use Rattle.httparse.specs.Ascii.{line_feed, carriage_return, semicolon, crlf_byt
 use Rattle.httparse.specs.Grammar.{ChunkLine, print_extension, chunk_size, is_ows, is_value_byte}
 use Rattle.http_wire.specs.declared.chunk_decoder.ChunkState.{ChunkState}
 use Rattle.http_wire.specs.declared.chunk_decoder.ChunkState.TheVariants.{Size, Blank, Extension, SizeEnd, Data, Trailers, Trailer, TrailerEnd, LastEnd, Done, Bad, TooLong}
-use Rattle.http_wire.specs.ChunkedBodies.{line_text, print_line, IsLine, Chunk, print_chunk, IsChunk, print_chunks, is_trailer_byte, IsTrailer, print_trailer, print_trailers, ChunkedBody, print_body, IsBody, chunk_data as joined}
-use Rattle.http_wire.specs.inner.ChunkDecoder.{Decoding, decoding, start, is_settled, is_data, after_digits, after_line, in_trailers, next_stage, next_decoding, ReadsOn}
+use Rattle.http_wire.specs.ChunkedBodies.{chunk_line_text, print_chunk_line, IsChunkLine, Chunk, print_chunk, IsChunk, print_chunks, is_trailer_byte, IsTrailer, print_trailer, print_trailers, ChunkedBody, print_chunked_body, IsChunkedBody, chunk_data as joined}
+use Rattle.http_wire.specs.inner.ChunkDecoder.{Decoding, decoding, initial_decoding, is_settled, expects_data, state_after_digits, state_after_line, state_in_trailers, next_state, next_decoding, DecodesBytes}
 use Rattle.http_wire.proofs.Steps.{same_decoding, reads_on, reads_data}
 
 -- one byte, from a state that is not settled
-step : (d : Decoding) (b : ℕ) (bytes : List ℕ) (next new : Decoding) → is_settled d.stage ≡ false → next_decoding d b ≡ next → ReadsOn next bytes new → ReadsOn d (b ∷ bytes) new
-step d b bytes next new going is reads = (going, subst (λ (x : Decoding). ReadsOn x bytes new) (sym is) reads)
+step : (d : Decoding) (b : ℕ) (bytes : List ℕ) (next new : Decoding) → is_settled d.stage ≡ false → next_decoding d b ≡ next → DecodesBytes next bytes new → DecodesBytes d (b ∷ bytes) new
+step d b bytes next new going is reads = (going, subst (λ (x : Decoding). DecodesBytes x bytes new) (sym is) reads)
 
 -- one byte that changes only the state
-move : (s t : ChunkState) (body : List ℕ) (b : ℕ) (bytes : List ℕ) (new : Decoding) → is_settled s ≡ false → is_data s ≡ false → next_stage s (length body) b ≡ t → ReadsOn (decoding t body) bytes new → ReadsOn (decoding s body) (b ∷ bytes) new
+move : (s t : ChunkState) (body : List ℕ) (b : ℕ) (bytes : List ℕ) (new : Decoding) → is_settled s ≡ false → expects_data s ≡ false → next_state s (length body) b ≡ t → DecodesBytes (decoding t body) bytes new → DecodesBytes (decoding s body) (b ∷ bytes) new
 move s t body b bytes new going other is reads =
     step (decoding s body) b bytes (decoding t body) new going
-    (same_decoding (next_stage s (length body) b) t (if is_data s then body ++ b ∷ [] else body) body is (ap (λ x. if x then body ++ b ∷ [] else body) other))
+    (same_decoding (next_state s (length body) b) t (if expects_data s then body ++ b ∷ [] else body) body is (ap (λ x. if x then body ++ b ∷ [] else body) other))
     reads
 
 -- a byte that passes a test which a carriage return fails is no carriage return
@@ -31,17 +31,17 @@ no_return : (p : ℕ → Bool) (b : ℕ) → p carriage_return ≡ false → p b
 no_return p b fails is = ne_eqb b carriage_return (λ same. both_ways (p carriage_return) fails (subst (λ (c : ℕ). p c ≡ true) same is))
 
 -- digits, after others
-one_digit : (count w b : ℕ) (decoded : ℕ) → count < 16 → is_digit b 16 ≡ true → next_stage (Size count (min w 262_145)) decoded b ≡ Size (count + 1) (min (w * 16 + digit_value b) 262_145)
+one_digit : (count w b : ℕ) (decoded : ℕ) → count < 16 → is_digit b 16 ≡ true → next_state (Size count (min w 262_145)) decoded b ≡ Size (count + 1) (min (w * 16 + digit_value b) 262_145)
 one_digit count w b decoded few is =
     let v : ℕ = min w 262_145 in
-    ap (λ t. if t then (if nat_lt count 16 then Size (count + 1) (min (v * 16 + digit_value b) 262_145) else Bad) else (if count == 0 then Bad else after_digits v count b)) is
+    ap (λ t. if t then (if nat_lt count 16 then Size (count + 1) (min (v * 16 + digit_value b) 262_145) else Bad) else (if count == 0 then Bad else state_after_digits v count b)) is
     ∙ ap (λ t. if t then Size (count + 1) (min (v * 16 + digit_value b) 262_145) else Bad) (lt-ltb count 16 few)
     ∙ ap (Size (count + 1)) (kept w (digit_value b))
   where
     kept : (w d : ℕ) → min (min w 262_145 * 16 + d) 262_145 ≡ min (w * 16 + d) 262_145
     kept w d = omega arith
 
-reads_digits : (count w : ℕ) (body ds : List ℕ) → count + length ds ≤ 16 → list_all (λ b. is_digit b 16) ds ≡ true → ReadsOn (decoding (Size count (min w 262_145)) body) ds (decoding (Size (count + length ds) (min (digits_value_after 16 w ds) 262_145)) body)
+reads_digits : (count w : ℕ) (body ds : List ℕ) → count + length ds ≤ 16 → list_all (λ b. is_digit b 16) ds ≡ true → DecodesBytes (decoding (Size count (min w 262_145)) body) ds (decoding (Size (count + length ds) (min (digits_value_after 16 w ds) 262_145)) body)
 reads_digits count w body [] few are =
     let same : count + 0 ≡ count = omega arith in
     ap (λ (n : ℕ). decoding (Size n (min w 262_145)) body) same
@@ -51,15 +51,15 @@ reads_digits count w body (d ∷ ds) few are =
     let counted : count + 1 + length ds ≡ count + length (d ∷ ds) = omega arith in
     move (Size count (min w 262_145)) (Size (count + 1) (min (w * 16 + digit_value d) 262_145)) body d ds (decoding (Size (count + length (d ∷ ds)) (min (digits_value_after 16 w (d ∷ ds)) 262_145)) body) refl refl
     (one_digit count w d (length body) (omega arith) parts.0)
-    (subst (λ (n : ℕ). ReadsOn (decoding (Size (count + 1) (min (w * 16 + digit_value d) 262_145)) body) ds (decoding (Size n (min (digits_value_after 16 w (d ∷ ds)) 262_145)) body)) counted rest)
+    (subst (λ (n : ℕ). DecodesBytes (decoding (Size (count + 1) (min (w * 16 + digit_value d) 262_145)) body) ds (decoding (Size n (min (digits_value_after 16 w (d ∷ ds)) 262_145)) body)) counted rest)
 
 -- the line end of a chunk line, after an extension
-reads_extension : (value len : ℕ) (body text : List ℕ) → len + length text ≤ 254 → list_all is_value_byte text ≡ true → ReadsOn (decoding (Extension value len) body) (text ++ crlf_bytes) (decoding (after_line value (length body) line_feed) body)
+reads_extension : (value len : ℕ) (body text : List ℕ) → len + length text ≤ 254 → list_all is_value_byte text ≡ true → DecodesBytes (decoding (Extension value len) body) (text ++ crlf_bytes) (decoding (state_after_line value (length body) line_feed) body)
 reads_extension value len body [] short are = (refl, (refl, refl))
 reads_extension value len body (b ∷ text) short are =
     let parts = and_parts (is_value_byte b) (list_all is_value_byte text) are in
     let inner : ChunkState = if is_value_byte b then Extension value (len + 1) else Bad in
-    move (Extension value len) (Extension value (len + 1)) body b (text ++ crlf_bytes) (decoding (after_line value (length body) line_feed) body) refl refl
+    move (Extension value len) (Extension value (len + 1)) body b (text ++ crlf_bytes) (decoding (state_after_line value (length body) line_feed) body) refl refl
     (ap (λ t. if t then SizeEnd value else (if nat_le 254 len then Bad else inner)) (no_return is_value_byte b refl parts.0)
     ∙ ap (λ t. if t then Bad else inner) (lt-leb 254 len (omega arith))
     ∙ ap (λ t. if t then Extension value (len + 1) else Bad) parts.0)
@@ -67,13 +67,13 @@ reads_extension value len body (b ∷ text) short are =
 
 -- a byte that continues after the digits is read alike after digits and after blanks
 abbrev LikeBlank : ChunkState → ℕ → ℕ → ℕ → Type 0
-LikeBlank s value len decoded = (b : ℕ) → is_digit b 16 ≡ false → next_stage s decoded b ≡ after_digits value len b
+LikeBlank s value len decoded = (b : ℕ) → is_digit b 16 ≡ false → next_state s decoded b ≡ state_after_digits value len b
 
 size_like_blank : (count value decoded : ℕ) → 0 < count → LikeBlank (Size count value) value count decoded
 size_like_blank count value decoded some b other =
     let ne : count ≢ 0 = omega arith in
-    ap (λ t. if t then (if nat_lt count 16 then Size (count + 1) (min (value * 16 + digit_value b) 262_145) else Bad) else (if count == 0 then Bad else after_digits value count b)) other
-    ∙ ap (λ t. if t then Bad else after_digits value count b) (ne_eqb count 0 ne)
+    ap (λ t. if t then (if nat_lt count 16 then Size (count + 1) (min (value * 16 + digit_value b) 262_145) else Bad) else (if count == 0 then Bad else state_after_digits value count b)) other
+    ∙ ap (λ t. if t then Bad else state_after_digits value count b) (ne_eqb count 0 ne)
 
 blank_no_digit : (b : ℕ) → is_ows b ≡ true → is_digit b 16 ≡ false
 blank_no_digit b is = elim (or_cases (b == 32) (b == 9) is) [
@@ -82,52 +82,52 @@ blank_no_digit b is = elim (or_cases (b == 32) (b == 9) is) [
 ]
 
 -- the rest of a chunk line after its digits
-reads_tail : (s : ChunkState) (value len : ℕ) (body pad : List ℕ) (extension : Option (List ℕ)) → is_settled s ≡ false → is_data s ≡ false → LikeBlank s value len (length body) → len + length (pad ++ print_extension extension) ≤ 254 → list_all is_ows pad ≡ true → list_all is_value_byte (unwrap_or extension []) ≡ true
-    → ReadsOn (decoding s body) ((pad ++ print_extension extension) ++ crlf_bytes) (decoding (after_line value (length body) line_feed) body)
+reads_tail : (s : ChunkState) (value len : ℕ) (body pad : List ℕ) (extension : Option (List ℕ)) → is_settled s ≡ false → expects_data s ≡ false → LikeBlank s value len (length body) → len + length (pad ++ print_extension extension) ≤ 254 → list_all is_ows pad ≡ true → list_all is_value_byte (unwrap_or extension []) ≡ true
+    → DecodesBytes (decoding s body) ((pad ++ print_extension extension) ++ crlf_bytes) (decoding (state_after_line value (length body) line_feed) body)
 reads_tail s value len body [] None going other like short pads texts =
-    move s (SizeEnd value) body carriage_return (line_feed ∷ []) (decoding (after_line value (length body) line_feed) body) going other (like carriage_return refl) (refl, refl)
+    move s (SizeEnd value) body carriage_return (line_feed ∷ []) (decoding (state_after_line value (length body) line_feed) body) going other (like carriage_return refl) (refl, refl)
 reads_tail s value len body [] (Some text) going other like short pads texts =
-    let marked : next_stage s (length body) semicolon ≡ Extension value (len + 1) =
+    let marked : next_state s (length body) semicolon ≡ Extension value (len + 1) =
     like semicolon refl ∙ ap (λ t. if t then Bad else Extension value (len + 1)) (lt-leb 254 len (omega arith)) in
-    move s (Extension value (len + 1)) body semicolon (text ++ crlf_bytes) (decoding (after_line value (length body) line_feed) body) going other marked (reads_extension value (len + 1) body text (omega arith) texts)
+    move s (Extension value (len + 1)) body semicolon (text ++ crlf_bytes) (decoding (state_after_line value (length body) line_feed) body) going other marked (reads_extension value (len + 1) body text (omega arith) texts)
 reads_tail s value len body (b ∷ pad) extension going other like short pads texts =
     let parts = and_parts (is_ows b) (list_all is_ows pad) pads in
     let last : ChunkState = if b == semicolon then Extension value (len + 1) else Bad in
     let inner : ChunkState = if is_ows b then Blank value (len + 1) else last in
-    let blank : next_stage s (length body) b ≡ Blank value (len + 1) =
+    let blank : next_state s (length body) b ≡ Blank value (len + 1) =
     like b (blank_no_digit b parts.0)
     ∙ ap (λ t. if t then SizeEnd value else (if nat_le 254 len then Bad else inner)) (no_return is_ows b refl parts.0)
     ∙ ap (λ t. if t then Bad else inner) (lt-leb 254 len (omega arith))
     ∙ ap (λ t. if t then Blank value (len + 1) else last) parts.0 in
-    move s (Blank value (len + 1)) body b ((pad ++ print_extension extension) ++ crlf_bytes) (decoding (after_line value (length body) line_feed) body) going other blank
+    move s (Blank value (len + 1)) body b ((pad ++ print_extension extension) ++ crlf_bytes) (decoding (state_after_line value (length body) line_feed) body) going other blank
     (reads_tail (Blank value (len + 1)) value (len + 1) body pad extension refl refl (λ c _. refl) (omega arith) parts.1 texts)
 
 -- a complete chunk line
-pub reads_line : (line : ChunkLine) (body : List ℕ) → IsLine line → ReadsOn (decoding (Size 0 0) body) (print_line line) (decoding (after_line (min (chunk_size line) 262_145) (length body) line_feed) body)
+pub reads_line : (line : ChunkLine) (body : List ℕ) → IsChunkLine line → DecodesBytes (decoding (Size 0 0) body) (print_chunk_line line) (decoding (state_after_line (min (chunk_size line) 262_145) (length body) line_feed) body)
 reads_line line body is =
     let rest : List ℕ = line.pad ++ print_extension line.extension in
     let value : ℕ = min (chunk_size line) 262_145 in
     let n : ℕ = length line.digits in
-    let digits : ReadsOn (decoding (Size 0 0) body) line.digits (decoding (Size n value) body) =
-    subst (λ (k : ℕ). ReadsOn (decoding (Size 0 0) body) line.digits (decoding (Size k value) body)) (zero-add n) (reads_digits 0 0 body line.digits (omega (arith, is.few)) is.digits) in
-    let short : n + length rest ≤ 254 = omega (arith, is.short, length-append (line_text line) crlf_bytes, length-append line.digits rest) in
-    subst (λ (l : List ℕ). ReadsOn (decoding (Size 0 0) body) l (decoding (after_line value (length body) line_feed) body)) (sym (append_assoc line.digits rest crlf_bytes))
-    (reads_on (decoding (Size 0 0) body) (decoding (Size n value) body) (decoding (after_line value (length body) line_feed) body) line.digits (rest ++ crlf_bytes) digits
+    let digits : DecodesBytes (decoding (Size 0 0) body) line.digits (decoding (Size n value) body) =
+    subst (λ (k : ℕ). DecodesBytes (decoding (Size 0 0) body) line.digits (decoding (Size k value) body)) (zero-add n) (reads_digits 0 0 body line.digits (omega (arith, is.few)) is.digits) in
+    let short : n + length rest ≤ 254 = omega (arith, is.short, length-append (chunk_line_text line) crlf_bytes, length-append line.digits rest) in
+    subst (λ (l : List ℕ). DecodesBytes (decoding (Size 0 0) body) l (decoding (state_after_line value (length body) line_feed) body)) (sym (append_assoc line.digits rest crlf_bytes))
+    (reads_on (decoding (Size 0 0) body) (decoding (Size n value) body) (decoding (state_after_line value (length body) line_feed) body) line.digits (rest ++ crlf_bytes) digits
     (reads_tail (Size n value) value n body line.pad line.extension refl refl (size_like_blank n value (length body) is.some) short is.pad is.extension))
 
 -- what a chunk line leads to
-to_trailers : (n decoded : ℕ) → n ≡ 0 → after_line (min n 262_145) decoded line_feed ≡ Trailers 0
-to_trailers n decoded none = ap (λ (k : ℕ). after_line (min k 262_145) decoded line_feed) none
+to_trailers : (n decoded : ℕ) → n ≡ 0 → state_after_line (min n 262_145) decoded line_feed ≡ Trailers 0
+to_trailers n decoded none = ap (λ (k : ℕ). state_after_line (min k 262_145) decoded line_feed) none
 
-to_data : (n decoded : ℕ) → 0 < n → decoded + n ≤ 262_144 → after_line (min n 262_145) decoded line_feed ≡ Data n
+to_data : (n decoded : ℕ) → 0 < n → decoded + n ≤ 262_144 → state_after_line (min n 262_145) decoded line_feed ≡ Data n
 to_data n decoded some fits =
     let kept : min n 262_145 ≡ n = omega arith in
     let ne : n ≢ 0 = omega arith in
-    ap (λ (k : ℕ). after_line k decoded line_feed) kept
+    ap (λ (k : ℕ). state_after_line k decoded line_feed) kept
     ∙ ap (λ t. if t then Trailers 0 else (if nat_le (decoded + n) 262_144 then Data n else TooLong)) (ne_eqb n 0 ne)
     ∙ ap (λ t. if t then Data n else TooLong) (le-leb (decoded + n) 262_144 fits)
 
-to_limit : (n decoded : ℕ) → decoded ≤ 262_144 → 262_144 < decoded + n → after_line (min n 262_145) decoded line_feed ≡ TooLong
+to_limit : (n decoded : ℕ) → decoded ≤ 262_144 → 262_144 < decoded + n → state_after_line (min n 262_145) decoded line_feed ≡ TooLong
 to_limit n decoded room over =
     let k : ℕ = min n 262_145 in
     let ne : k ≢ 0 = omega arith in
@@ -136,27 +136,27 @@ to_limit n decoded room over =
     ∙ ap (λ t. if t then Data k else TooLong) (lt-leb (decoded + k) 262_144 beyond)
 
 -- a chunk that fits
-reads_chunk : (c : Chunk) (body : List ℕ) → IsChunk c → length body + length c.bytes ≤ 262_144 → ReadsOn (decoding (Size 0 0) body) (print_chunk c) (decoding (Size 0 0) (body ++ c.bytes))
+reads_chunk : (c : Chunk) (body : List ℕ) → IsChunk c → length body + length c.bytes ≤ 262_144 → DecodesBytes (decoding (Size 0 0) body) (print_chunk c) (decoding (Size 0 0) (body ++ c.bytes))
 reads_chunk c body is fits =
     let n : ℕ = length c.bytes in
-    let to : after_line (min (chunk_size c.line) 262_145) (length body) line_feed ≡ Data n = ap (λ (k : ℕ). after_line (min k 262_145) (length body) line_feed) is.sized ∙ to_data n (length body) is.some fits in
-    let line : ReadsOn (decoding (Size 0 0) body) (print_line c.line) (decoding (Data n) body) = subst (λ (s : ChunkState). ReadsOn (decoding (Size 0 0) body) (print_line c.line) (decoding s body)) to (reads_line c.line body is.line) in
+    let to : state_after_line (min (chunk_size c.line) 262_145) (length body) line_feed ≡ Data n = ap (λ (k : ℕ). state_after_line (min k 262_145) (length body) line_feed) is.sized ∙ to_data n (length body) is.some fits in
+    let line : DecodesBytes (decoding (Size 0 0) body) (print_chunk_line c.line) (decoding (Data n) body) = subst (λ (s : ChunkState). DecodesBytes (decoding (Size 0 0) body) (print_chunk_line c.line) (decoding s body)) to (reads_line c.line body is.line) in
     let all : n - n ≡ 0 = omega arith in
-    let bytes : ReadsOn (decoding (Data n) body) c.bytes (decoding (Data 0) (body ++ c.bytes)) = subst (λ (k : ℕ). ReadsOn (decoding (Data n) body) c.bytes (decoding (Data k) (body ++ c.bytes))) all (reads_data n body c.bytes (omega arith)) in
-    reads_on (decoding (Size 0 0) body) (decoding (Data n) body) (decoding (Size 0 0) (body ++ c.bytes)) (print_line c.line) (c.bytes ++ crlf_bytes) line
+    let bytes : DecodesBytes (decoding (Data n) body) c.bytes (decoding (Data 0) (body ++ c.bytes)) = subst (λ (k : ℕ). DecodesBytes (decoding (Data n) body) c.bytes (decoding (Data k) (body ++ c.bytes))) all (reads_data n body c.bytes (omega arith)) in
+    reads_on (decoding (Size 0 0) body) (decoding (Data n) body) (decoding (Size 0 0) (body ++ c.bytes)) (print_chunk_line c.line) (c.bytes ++ crlf_bytes) line
     (reads_on (decoding (Data n) body) (decoding (Data 0) (body ++ c.bytes)) (decoding (Size 0 0) (body ++ c.bytes)) c.bytes crlf_bytes bytes (refl, (refl, refl)))
 
-reads_chunks : (chunks : List Chunk) (body : List ℕ) → AllByRecursion IsChunk chunks → length body + length (joined chunks) ≤ 262_144 → ReadsOn (decoding (Size 0 0) body) (print_chunks chunks) (decoding (Size 0 0) (body ++ joined chunks))
+reads_chunks : (chunks : List Chunk) (body : List ℕ) → AllByRecursion IsChunk chunks → length body + length (joined chunks) ≤ 262_144 → DecodesBytes (decoding (Size 0 0) body) (print_chunks chunks) (decoding (Size 0 0) (body ++ joined chunks))
 reads_chunks [] body are fits = ap (decoding (Size 0 0)) (append-nil body)
 reads_chunks (c ∷ chunks) body are fits =
     let long = length-append c.bytes (joined chunks) in
     let rest = reads_chunks chunks (body ++ c.bytes) are.1 (omega (arith, long, length-append body c.bytes)) in
     reads_on (decoding (Size 0 0) body) (decoding (Size 0 0) (body ++ c.bytes)) (decoding (Size 0 0) (body ++ joined (c ∷ chunks))) (print_chunk c) (print_chunks chunks)
     (reads_chunk c body are.0 (omega (arith, long)))
-    (subst (λ (l : List ℕ). ReadsOn (decoding (Size 0 0) (body ++ c.bytes)) (print_chunks chunks) (decoding (Size 0 0) l)) (append_assoc body c.bytes (joined chunks)) rest)
+    (subst (λ (l : List ℕ). DecodesBytes (decoding (Size 0 0) (body ++ c.bytes)) (print_chunks chunks) (decoding (Size 0 0) l)) (append_assoc body c.bytes (joined chunks)) rest)
 
 -- a trailer line within the limit
-trailer_moves : (used b : ℕ) (end : ChunkState) → is_trailer_byte b ≡ true → used + 3 ≤ 16_384 → in_trailers used b end ≡ Trailer (used + 1)
+trailer_moves : (used b : ℕ) (end : ChunkState) → is_trailer_byte b ≡ true → used + 3 ≤ 16_384 → state_in_trailers used b end ≡ Trailer (used + 1)
 trailer_moves used b end is room =
     let tests = or_parts (b == carriage_return) (b == line_feed) (not-true (b == carriage_return || b == line_feed) is) in
     let longer : ChunkState = if nat_le (used + 3) 16_384 then Trailer (used + 1) else Bad in
@@ -164,7 +164,7 @@ trailer_moves used b end is room =
     ∙ ap (λ t. if t then Bad else longer) tests.1
     ∙ ap (λ t. if t then Trailer (used + 1) else Bad) (le-leb (used + 3) 16_384 room)
 
-reads_trailer : (used : ℕ) (body text : List ℕ) → list_all is_trailer_byte text ≡ true → used + length text + 2 ≤ 16_384 → ReadsOn (decoding (Trailer used) body) (text ++ crlf_bytes) (decoding (Trailers (used + length text + 2)) body)
+reads_trailer : (used : ℕ) (body text : List ℕ) → list_all is_trailer_byte text ≡ true → used + length text + 2 ≤ 16_384 → DecodesBytes (decoding (Trailer used) body) (text ++ crlf_bytes) (decoding (Trailers (used + length text + 2)) body)
 reads_trailer used body [] are room =
     let counted : used + 1 + 1 ≡ used + 0 + 2 = omega arith in
     (refl, (refl, ap (λ (n : ℕ). decoding (Trailers n) body) (sym counted)))
@@ -173,18 +173,18 @@ reads_trailer used body (b ∷ text) are room =
     let counted : used + 1 + length text + 2 ≡ used + length (b ∷ text) + 2 = omega arith in
     let new : Decoding = decoding (Trailers (used + length (b ∷ text) + 2)) body in
     move (Trailer used) (Trailer (used + 1)) body b (text ++ crlf_bytes) new refl refl (trailer_moves used b (TrailerEnd (used + 1)) parts.0 (omega arith))
-    (subst (λ (n : ℕ). ReadsOn (decoding (Trailer (used + 1)) body) (text ++ crlf_bytes) (decoding (Trailers n) body)) counted (reads_trailer (used + 1) body text parts.1 (omega arith)))
+    (subst (λ (n : ℕ). DecodesBytes (decoding (Trailer (used + 1)) body) (text ++ crlf_bytes) (decoding (Trailers n) body)) counted (reads_trailer (used + 1) body text parts.1 (omega arith)))
 
-reads_whole_trailer : (used : ℕ) (body text : List ℕ) → IsTrailer text → used + length text + 2 ≤ 16_384 → ReadsOn (decoding (Trailers used) body) (text ++ crlf_bytes) (decoding (Trailers (used + length text + 2)) body)
+reads_whole_trailer : (used : ℕ) (body text : List ℕ) → IsTrailer text → used + length text + 2 ≤ 16_384 → DecodesBytes (decoding (Trailers used) body) (text ++ crlf_bytes) (decoding (Trailers (used + length text + 2)) body)
 reads_whole_trailer used body [] is room = absurd (omega (arith, is.some))
 reads_whole_trailer used body (b ∷ text) is room =
     let parts = and_parts (is_trailer_byte b) (list_all is_trailer_byte text) is.bytes in
     let counted : used + 1 + length text + 2 ≡ used + length (b ∷ text) + 2 = omega arith in
     let new : Decoding = decoding (Trailers (used + length (b ∷ text) + 2)) body in
     move (Trailers used) (Trailer (used + 1)) body b (text ++ crlf_bytes) new refl refl (trailer_moves used b LastEnd parts.0 (omega arith))
-    (subst (λ (n : ℕ). ReadsOn (decoding (Trailer (used + 1)) body) (text ++ crlf_bytes) (decoding (Trailers n) body)) counted (reads_trailer (used + 1) body text parts.1 (omega arith)))
+    (subst (λ (n : ℕ). DecodesBytes (decoding (Trailer (used + 1)) body) (text ++ crlf_bytes) (decoding (Trailers n) body)) counted (reads_trailer (used + 1) body text parts.1 (omega arith)))
 
-reads_trailers : (used : ℕ) (body : List ℕ) (trailers : List (List ℕ)) → AllByRecursion IsTrailer trailers → used + length (print_trailers trailers) ≤ 16_384 → ReadsOn (decoding (Trailers used) body) (print_trailers trailers) (decoding (Trailers (used + length (print_trailers trailers))) body)
+reads_trailers : (used : ℕ) (body : List ℕ) (trailers : List (List ℕ)) → AllByRecursion IsTrailer trailers → used + length (print_trailers trailers) ≤ 16_384 → DecodesBytes (decoding (Trailers used) body) (print_trailers trailers) (decoding (Trailers (used + length (print_trailers trailers))) body)
 reads_trailers used body [] are room =
     let same : used ≡ used + 0 = omega arith in
     ap (λ (n : ℕ). decoding (Trailers n) body) (sym same)
@@ -195,40 +195,40 @@ reads_trailers used body (text ∷ trailers) are room =
     let counted : used' + length (print_trailers trailers) ≡ used + length (print_trailers (text ∷ trailers)) = omega (arith, long, short) in
     reads_on (decoding (Trailers used) body) (decoding (Trailers used') body) (decoding (Trailers (used + length (print_trailers (text ∷ trailers)))) body) (print_trailer text) (print_trailers trailers)
     (reads_whole_trailer used body text are.0 (omega (arith, long, short)))
-    (subst (λ (n : ℕ). ReadsOn (decoding (Trailers used') body) (print_trailers trailers) (decoding (Trailers n) body)) counted (reads_trailers used' body trailers are.1 (omega (arith, long, short))))
+    (subst (λ (n : ℕ). DecodesBytes (decoding (Trailers used') body) (print_trailers trailers) (decoding (Trailers n) body)) counted (reads_trailers used' body trailers are.1 (omega (arith, long, short))))
 
 -- a complete body within the limit is read to its end
-pub reads_body : (c : ChunkedBody) → IsBody c → length (joined c.chunks) ≤ 262_144 → ReadsOn start (print_body c) (decoding Done (joined c.chunks))
+pub reads_body : (c : ChunkedBody) → IsChunkedBody c → length (joined c.chunks) ≤ 262_144 → DecodesBytes initial_decoding (print_chunked_body c) (decoding Done (joined c.chunks))
 reads_body c is short =
     let body : List ℕ = joined c.chunks in
     let used : ℕ = length (print_trailers c.trailers) in
-    let last : ReadsOn (decoding (Size 0 0) body) (print_line c.last) (decoding (Trailers 0) body) =
-    subst (λ (s : ChunkState). ReadsOn (decoding (Size 0 0) body) (print_line c.last) (decoding s body)) (to_trailers (chunk_size c.last) (length body) is.ends) (reads_line c.last body is.last) in
-    let trailers : ReadsOn (decoding (Trailers 0) body) (print_trailers c.trailers) (decoding (Trailers used) body) =
-    subst (λ (n : ℕ). ReadsOn (decoding (Trailers 0) body) (print_trailers c.trailers) (decoding (Trailers n) body)) (zero-add used) (reads_trailers 0 body c.trailers is.trailers (omega (arith, is.short))) in
-    reads_on start (decoding (Size 0 0) body) (decoding Done body) (print_chunks c.chunks) (print_line c.last ++ (print_trailers c.trailers ++ crlf_bytes)) (reads_chunks c.chunks [] is.chunks (omega arith))
-    (reads_on (decoding (Size 0 0) body) (decoding (Trailers 0) body) (decoding Done body) (print_line c.last) (print_trailers c.trailers ++ crlf_bytes) last
+    let last : DecodesBytes (decoding (Size 0 0) body) (print_chunk_line c.last) (decoding (Trailers 0) body) =
+    subst (λ (s : ChunkState). DecodesBytes (decoding (Size 0 0) body) (print_chunk_line c.last) (decoding s body)) (to_trailers (chunk_size c.last) (length body) is.ends) (reads_line c.last body is.last) in
+    let trailers : DecodesBytes (decoding (Trailers 0) body) (print_trailers c.trailers) (decoding (Trailers used) body) =
+    subst (λ (n : ℕ). DecodesBytes (decoding (Trailers 0) body) (print_trailers c.trailers) (decoding (Trailers n) body)) (zero-add used) (reads_trailers 0 body c.trailers is.trailers (omega (arith, is.short))) in
+    reads_on initial_decoding (decoding (Size 0 0) body) (decoding Done body) (print_chunks c.chunks) (print_chunk_line c.last ++ (print_trailers c.trailers ++ crlf_bytes)) (reads_chunks c.chunks [] is.chunks (omega arith))
+    (reads_on (decoding (Size 0 0) body) (decoding (Trailers 0) body) (decoding Done body) (print_chunk_line c.last) (print_trailers c.trailers ++ crlf_bytes) last
     (reads_on (decoding (Trailers 0) body) (decoding (Trailers used) body) (decoding Done body) (print_trailers c.trailers) crlf_bytes trailers (refl, (refl, refl))))
 
 -- chunks and one more line that pass the limit are read up to there
-pub reads_to_limit : (chunks : List Chunk) (line : ChunkLine) (body : List ℕ) → AllByRecursion IsChunk chunks → IsLine line → length body ≤ 262_144 → 262_144 < length body + length (joined chunks) + chunk_size line
-    → (front : List ℕ) × (back : List ℕ) × (last : List ℕ) × (print_chunks chunks ++ print_line line ≡ front ++ back) × ReadsOn (decoding (Size 0 0) body) front (decoding TooLong last)
+pub reads_to_limit : (chunks : List Chunk) (line : ChunkLine) (body : List ℕ) → AllByRecursion IsChunk chunks → IsChunkLine line → length body ≤ 262_144 → 262_144 < length body + length (joined chunks) + chunk_size line
+    → (front : List ℕ) × (back : List ℕ) × (last : List ℕ) × (print_chunks chunks ++ print_chunk_line line ≡ front ++ back) × DecodesBytes (decoding (Size 0 0) body) front (decoding TooLong last)
 reads_to_limit [] line body are is room over = (
-  print_line line,
+  print_chunk_line line,
   [],
   body,
-  sym (append-nil (print_line line)),
-  subst (λ (s : ChunkState). ReadsOn (decoding (Size 0 0) body) (print_line line) (decoding s body)) (to_limit (chunk_size line) (length body) room (omega arith)) (reads_line line body is),
+  sym (append-nil (print_chunk_line line)),
+  subst (λ (s : ChunkState). DecodesBytes (decoding (Size 0 0) body) (print_chunk_line line) (decoding s body)) (to_limit (chunk_size line) (length body) room (omega arith)) (reads_line line body is),
 )
 reads_to_limit (c ∷ chunks) line body are is room over = elim (cases_lt 262_144 (length body + length c.bytes)) [
   | inl beyond ↦ (
-      let back : List ℕ = (c.bytes ++ crlf_bytes) ++ (print_chunks chunks ++ print_line line) in
-      let there : after_line (min (chunk_size c.line) 262_145) (length body) line_feed ≡ TooLong = to_limit (chunk_size c.line) (length body) room (omega (arith, are.0.sized)) in (
-        print_line c.line,
+      let back : List ℕ = (c.bytes ++ crlf_bytes) ++ (print_chunks chunks ++ print_chunk_line line) in
+      let there : state_after_line (min (chunk_size c.line) 262_145) (length body) line_feed ≡ TooLong = to_limit (chunk_size c.line) (length body) room (omega (arith, are.0.sized)) in (
+        print_chunk_line c.line,
         back,
         body,
-        append_assoc (print_chunk c) (print_chunks chunks) (print_line line) ∙ append_assoc (print_line c.line) (c.bytes ++ crlf_bytes) (print_chunks chunks ++ print_line line),
-        subst (λ (s : ChunkState). ReadsOn (decoding (Size 0 0) body) (print_line c.line) (decoding s body)) there (reads_line c.line body are.0.line),
+        append_assoc (print_chunk c) (print_chunks chunks) (print_chunk_line line) ∙ append_assoc (print_chunk_line c.line) (c.bytes ++ crlf_bytes) (print_chunks chunks ++ print_chunk_line line),
+        subst (λ (s : ChunkState). DecodesBytes (decoding (Size 0 0) body) (print_chunk_line c.line) (decoding s body)) there (reads_line c.line body are.0.line),
       )
       )
   | inr fits ↦ (
@@ -238,7 +238,7 @@ reads_to_limit (c ∷ chunks) line body are is room over = elim (cases_lt 262_14
         print_chunk c ++ rest.0,
         rest.1,
         rest.2,
-        append_assoc (print_chunk c) (print_chunks chunks) (print_line line) ∙ ap (λ (l : List ℕ). print_chunk c ++ l) rest.3 ∙ sym (append_assoc (print_chunk c) rest.0 rest.1),
+        append_assoc (print_chunk c) (print_chunks chunks) (print_chunk_line line) ∙ ap (λ (l : List ℕ). print_chunk c ++ l) rest.3 ∙ sym (append_assoc (print_chunk c) rest.0 rest.1),
         reads_on (decoding (Size 0 0) body) (decoding (Size 0 0) (body ++ c.bytes)) (decoding TooLong rest.2) (print_chunk c) rest.0 (reads_chunk c body are.0 fits) rest.4,
       )
       )
@@ -247,22 +247,22 @@ reads_to_limit (c ∷ chunks) line body are is room over = elim (cases_lt 262_14
 -- Where a decoding ends is determined by the bytes.
 
 -- of two decodings of bytes that begin alike, one that is settled goes no further
-pub settles_once : (d : Decoding) (front other rest more : List ℕ) (x y : Decoding) → ReadsOn d front x → ReadsOn d other y → front ++ rest ≡ other ++ more → is_settled x.stage ≡ true → is_settled y.stage ≡ true → (x ≡ y) × (front ≡ other) × (rest ≡ more)
+pub settles_once : (d : Decoding) (front other rest more : List ℕ) (x y : Decoding) → DecodesBytes d front x → DecodesBytes d other y → front ++ rest ≡ other ++ more → is_settled x.stage ≡ true → is_settled y.stage ≡ true → (x ≡ y) × (front ≡ other) × (rest ≡ more)
 settles_once d [] [] rest more x y p q same u v = (p ∙ sym q, refl, same)
 settles_once d [] (c ∷ other) rest more x y p q same u v = absurd (both_ways (is_settled d.stage) q.0 (subst (λ (z : Decoding). is_settled z.stage ≡ true) p u))
 settles_once d (b ∷ front) [] rest more x y p q same u v = absurd (both_ways (is_settled d.stage) p.0 (subst (λ (z : Decoding). is_settled z.stage ≡ true) q v))
 settles_once d (b ∷ front) (c ∷ other) rest more x y p q same u v =
     let heads : b ≡ c = cc in
     let tails : front ++ rest ≡ other ++ more = cc in
-    let next = settles_once (next_decoding d b) front other rest more x y p.1 (subst (λ (k : ℕ). ReadsOn (next_decoding d k) other y) (sym heads) q.1) tails u v in
+    let next = settles_once (next_decoding d b) front other rest more x y p.1 (subst (λ (k : ℕ). DecodesBytes (next_decoding d k) other y) (sym heads) q.1) tails u v in
     (next.0, (let e : front ≡ other = next.1 in cc), next.2)
 
 -- a decoding that isn't settled read no bytes on which another one is settled
-pub not_settled_before : (d : Decoding) (front rest bytes : List ℕ) (x y : Decoding) → ReadsOn d front x → ReadsOn d bytes y → bytes ≡ front ++ rest → is_settled x.stage ≡ true → is_settled y.stage ≡ false → ⊥
+pub not_settled_before : (d : Decoding) (front rest bytes : List ℕ) (x y : Decoding) → DecodesBytes d front x → DecodesBytes d bytes y → bytes ≡ front ++ rest → is_settled x.stage ≡ true → is_settled y.stage ≡ false → ⊥
 not_settled_before d [] rest [] x y p q same u v = both_ways (is_settled d.stage) (subst (λ (z : Decoding). is_settled z.stage ≡ false) q v) (subst (λ (z : Decoding). is_settled z.stage ≡ true) p u)
 not_settled_before d [] rest (c ∷ bytes) x y p q same u v = both_ways (is_settled d.stage) q.0 (subst (λ (z : Decoding). is_settled z.stage ≡ true) p u)
 not_settled_before d (b ∷ front) rest [] x y p q same u v = let no : ⊥ = cc in no
 not_settled_before d (b ∷ front) rest (c ∷ bytes) x y p q same u v =
     let heads : c ≡ b = cc in
     let tails : bytes ≡ front ++ rest = cc in
-    not_settled_before (next_decoding d b) front rest bytes x y p.1 (subst (λ (k : ℕ). ReadsOn (next_decoding d k) bytes y) heads q.1) tails u v
+    not_settled_before (next_decoding d b) front rest bytes x y p.1 (subst (λ (k : ℕ). DecodesBytes (next_decoding d k) bytes y) heads q.1) tails u v

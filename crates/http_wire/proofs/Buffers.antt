@@ -3,10 +3,10 @@ use Rattle.std.proofs.Common.{◌≡◌, ℕ, ◌+◌, ◌-◌, ◌≤◌, nat_l
 use Rattle.std.proofs.lemmas.Bool.{ltb-true, ltb-false}
 use Rattle.std.proofs.lemmas.List.{append-nil, nil_from_length, length-take-le, take-append-le, drop-append-le, drop-take, drop-drop}
 use Rattle.std.proofs.Math.Seq.{take-append-add}
-use Rattle.xcap_io.specs.Causes.{InputState}
+use Rattle.xcap_io.specs.StreamStates.{InputState}
 use Rattle.xcap_io.specs.StreamTraffic.{IsEnded}
 use Rattle.http_wire.specs.NextRequests.{BufferedSource}
-use Rattle.http_wire.specs.inner.ReadBuffer.{GainedOrEnded}
+use Rattle.http_wire.specs.inner.ReadBuffer.{BuffersMoreOrEnds}
 
 abbrev pub buffered : List ℕ → InputState → BufferedSource
 buffered held source = record { held = held; source = source }
@@ -59,10 +59,10 @@ unfilled held buffer items behind start end before is ordered inside =
     ap (slice_range items start) (sym none) ∙ filled held buffer items [] behind start end 0 before is ordered inside (omega arith) ∙ append-nil held
 
 -- a read gave n bytes, or none at the end
-pub gained : (count : ℕ) (held held' read : List ℕ) (left' : InputState) → held' ≡ held ++ read → length read ≡ count → (count ≡ 0 → IsEnded left') → GainedOrEnded (nat_lt 0 count) held held' left'
+pub gained : (count : ℕ) (held held' read : List ℕ) (left' : InputState) → held' ≡ held ++ read → length read ≡ count → (count ≡ 0 → IsEnded left') → BuffersMoreOrEnds (nat_lt 0 count) held held' left'
 gained count held held' read left' added size ends = by_test (nat_lt 0 count) refl
   where
-    by_test : (b : Bool) → nat_lt 0 count ≡ b → GainedOrEnded b held held' left'
+    by_test : (b : Bool) → nat_lt 0 count ≡ b → BuffersMoreOrEnds b held held' left'
     by_test true some = omega (arith, ltb-true 0 count some, ap length added, length-append held read, size)
     by_test false none =
         let zero : count ≡ 0 = omega (arith, ltb-false 0 count none) in

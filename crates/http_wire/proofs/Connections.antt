@@ -3,21 +3,21 @@ use Rattle.std.proofs.Common.{◌≡◌, ℕ, ◌+◌, false, List, [], ◌∷�
 use Rattle.std.proofs.lemmas.List.{append-nil}
 use Rattle.std.specs.Prelude.{option_to_list as told}
 use Rattle.http_wire.specs.declared.request.Request.{Request}
-use Rattle.http_wire.specs.Items.{AsksFor}
-use Rattle.http_wire.specs.ServedConnections.{Run, RunAnswer}
+use Rattle.http_wire.specs.ConnectionItems.{AsksFor}
+use Rattle.http_wire.specs.ServedConnections.{AnswersRequests, RequestsAnswer}
 use Rattle.http_wire.proofs.WholeItems.{asks-append}
 
 -- Requests, one after the other.
 
 module _ {M E : Type 0} (Step : M → Request → List ℕ → M → Option E → Type 0) (fixed : ℕ → List ℕ) where
   -- no requests yet
-  pub run_none : (before : ℕ) (machine : M) (bytes : List ℕ) → Run Step fixed before machine bytes [] (record { written = []; edits = []; next = machine; rest = bytes })
+  pub run_none : (before : ℕ) (machine : M) (bytes : List ℕ) → AnswersRequests Step fixed before machine bytes [] (record { written = []; edits = []; next = machine; rest = bytes })
   run_none before machine bytes = (refl, refl, refl, refl)
 
   -- one more request
-  pub run_more : (before : ℕ) (machine next : M) (bytes rest reply : List ℕ) (requests : List Request) (answer : RunAnswer M E) (request : Request) (edit : Option E)
-      → Run Step fixed before machine bytes requests answer → AsksFor (before + length requests) answer.rest request rest → request.closes ≡ false → Step answer.next request reply next edit
-      → Run Step fixed before machine bytes (requests ++ request ∷ []) (record { written = answer.written ++ reply; edits = answer.edits ++ told edit; next = next; rest = rest })
+  pub run_more : (before : ℕ) (machine next : M) (bytes rest reply : List ℕ) (requests : List Request) (answer : RequestsAnswer M E) (request : Request) (edit : Option E)
+      → AnswersRequests Step fixed before machine bytes requests answer → AsksFor (before + length requests) answer.rest request rest → request.closes ≡ false → Step answer.next request reply next edit
+      → AnswersRequests Step fixed before machine bytes (requests ++ request ∷ []) (record { written = answer.written ++ reply; edits = answer.edits ++ told edit; next = next; rest = rest })
   run_more before machine next bytes rest reply [] answer request edit run asked stays step =
       let here : before + 0 ≡ before = omega arith in (
         rest,
@@ -50,8 +50,8 @@ module _ {M E : Type 0} (Step : M → Request → List ℕ → M → Option E �
       )
 
   -- the requests are the first ones however the bytes go on
-  pub run-append : (before : ℕ) (machine : M) (bytes more : List ℕ) (requests : List Request) (answer : RunAnswer M E)
-      → Run Step fixed before machine bytes requests answer → Run Step fixed before machine (bytes ++ more) requests (record answer { rest = answer.rest ++ more })
+  pub run-append : (before : ℕ) (machine : M) (bytes more : List ℕ) (requests : List Request) (answer : RequestsAnswer M E)
+      → AnswersRequests Step fixed before machine bytes requests answer → AnswersRequests Step fixed before machine (bytes ++ more) requests (record answer { rest = answer.rest ++ more })
   run-append before machine bytes more [] answer run = (run.0, run.1, run.2, ap (λ (l : List ℕ). l ++ more) run.3)
   run-append before machine bytes more (r ∷ requests) answer (b, w, m, e, others, later, first, kept, stepped, wrote, told_first, run) = (
     b ++ more,

@@ -9,7 +9,7 @@ use Rattle.std.specs.Int.{IsInRange}
 use Rattle.std.specs.Str.Parse.{digits_value, digits_value_after}
 use Rattle.httparse.specs.Spans.{header_bytes}
 use Rattle.httparse.specs.declared.spans.HeaderSpan.{HeaderSpan}
-use Rattle.http_wire.specs.Fields.{same_ignoring_case, values_of}
+use Rattle.http_wire.specs.Fields.{same_ignoring_case, field_values}
 
 -- one more field
 pub fields_more : (buf : List ℕ) (headers : List HeaderSpan) (i : ℕ) (d : HeaderSpan) → i < length headers → map (header_bytes buf) (take (i + 1) headers) ≡ map (header_bytes buf) (take i headers) ++ header_bytes buf (get_or headers i d) ∷ []
@@ -19,27 +19,27 @@ fields_more buf headers i d inside = ap (map (header_bytes buf)) (take_more head
 abbrev pub value_if : Bool → List ℕ → List (List ℕ)
 value_if named value = if named then value ∷ [] else []
 
-values_of-push : (name : List ℕ) (fields : List (List ℕ × List ℕ)) (field : List ℕ × List ℕ) → values_of name (fields ++ field ∷ []) ≡ values_of name fields ++ value_if (same_ignoring_case field.0 name) field.1
-values_of-push name [] field = refl
-values_of-push name (first ∷ fields) field = on (same_ignoring_case first.0 name) (values_of-push name fields field)
+field_values-push : (name : List ℕ) (fields : List (List ℕ × List ℕ)) (field : List ℕ × List ℕ) → field_values name (fields ++ field ∷ []) ≡ field_values name fields ++ value_if (same_ignoring_case field.0 name) field.1
+field_values-push name [] field = refl
+field_values-push name (first ∷ fields) field = on (same_ignoring_case first.0 name) (field_values-push name fields field)
   where
-    on : (named : Bool) → values_of name (fields ++ field ∷ []) ≡ values_of name fields ++ value_if (same_ignoring_case field.0 name) field.1
-        → (if named then first.1 ∷ values_of name (fields ++ field ∷ []) else values_of name (fields ++ field ∷ []))
-        ≡ (if named then first.1 ∷ values_of name fields else values_of name fields) ++ value_if (same_ignoring_case field.0 name) field.1
+    on : (named : Bool) → field_values name (fields ++ field ∷ []) ≡ field_values name fields ++ value_if (same_ignoring_case field.0 name) field.1
+        → (if named then first.1 ∷ field_values name (fields ++ field ∷ []) else field_values name (fields ++ field ∷ []))
+        ≡ (if named then first.1 ∷ field_values name fields else field_values name fields) ++ value_if (same_ignoring_case field.0 name) field.1
     on true same = ap (λ (l : List (List ℕ)). first.1 ∷ l) same
     on false same = same
 
-values_of-append : (name : List ℕ) (xs ys : List (List ℕ × List ℕ)) → values_of name (xs ++ ys) ≡ values_of name xs ++ values_of name ys
-values_of-append name [] ys = refl
-values_of-append name (x ∷ xs) ys = on (same_ignoring_case x.0 name) (values_of-append name xs ys)
+field_values-append : (name : List ℕ) (xs ys : List (List ℕ × List ℕ)) → field_values name (xs ++ ys) ≡ field_values name xs ++ field_values name ys
+field_values-append name [] ys = refl
+field_values-append name (x ∷ xs) ys = on (same_ignoring_case x.0 name) (field_values-append name xs ys)
   where
-    on : (named : Bool) → values_of name (xs ++ ys) ≡ values_of name xs ++ values_of name ys → (if named then x.1 ∷ values_of name (xs ++ ys) else values_of name (xs ++ ys)) ≡ (if named then x.1 ∷ values_of name xs else values_of name xs) ++ values_of name ys
+    on : (named : Bool) → field_values name (xs ++ ys) ≡ field_values name xs ++ field_values name ys → (if named then x.1 ∷ field_values name (xs ++ ys) else field_values name (xs ++ ys)) ≡ (if named then x.1 ∷ field_values name xs else field_values name xs) ++ field_values name ys
     on true same = ap (λ (l : List (List ℕ)). x.1 ∷ l) same
     on false same = same
 
 pub values_more : (buf name : List ℕ) (headers : List HeaderSpan) (i : ℕ) (d : HeaderSpan) → i < length headers
-    → values_of name (map (header_bytes buf) (take (i + 1) headers)) ≡ values_of name (map (header_bytes buf) (take i headers)) ++ value_if (same_ignoring_case (header_bytes buf (get_or headers i d)).0 name) (header_bytes buf (get_or headers i d)).1
-values_more buf name headers i d inside = ap (values_of name) (fields_more buf headers i d inside) ∙ values_of-push name (map (header_bytes buf) (take i headers)) (header_bytes buf (get_or headers i d))
+    → field_values name (map (header_bytes buf) (take (i + 1) headers)) ≡ field_values name (map (header_bytes buf) (take i headers)) ++ value_if (same_ignoring_case (header_bytes buf (get_or headers i d)).0 name) (header_bytes buf (get_or headers i d)).1
+values_more buf name headers i d inside = ap (field_values name) (fields_more buf headers i d inside) ∙ field_values-push name (map (header_bytes buf) (take i headers)) (header_bytes buf (get_or headers i d))
 
 -- the digits read so far and one more, capped at a limit
 digits_value-push : (n : ℕ) (xs : List ℕ) (b : ℕ) → digits_value_after 10 n (xs ++ b ∷ []) ≡ digits_value_after 10 n xs * 10 + digit_value b
@@ -64,18 +64,18 @@ list_any-append p (x ∷ xs) ys = on (p x) (list_any-append p xs ys)
 
 -- a field that has the name, and one that has another
 pub value_named : (buf name : List ℕ) (headers : List HeaderSpan) (i : ℕ) (d : HeaderSpan) → i < length headers → same_ignoring_case (header_bytes buf (get_or headers i d)).0 name ≡ true
-    → values_of name (map (header_bytes buf) (take (i + 1) headers)) ≡ values_of name (map (header_bytes buf) (take i headers)) ++ (header_bytes buf (get_or headers i d)).1 ∷ []
-value_named buf name headers i d inside is = values_more buf name headers i d inside ∙ ap (λ (t : Bool). values_of name (map (header_bytes buf) (take i headers)) ++ value_if t (header_bytes buf (get_or headers i d)).1) is
+    → field_values name (map (header_bytes buf) (take (i + 1) headers)) ≡ field_values name (map (header_bytes buf) (take i headers)) ++ (header_bytes buf (get_or headers i d)).1 ∷ []
+value_named buf name headers i d inside is = values_more buf name headers i d inside ∙ ap (λ (t : Bool). field_values name (map (header_bytes buf) (take i headers)) ++ value_if t (header_bytes buf (get_or headers i d)).1) is
 
 pub value_other : (buf name : List ℕ) (headers : List HeaderSpan) (i : ℕ) (d : HeaderSpan) → i < length headers → same_ignoring_case (header_bytes buf (get_or headers i d)).0 name ≡ false
-    → values_of name (map (header_bytes buf) (take (i + 1) headers)) ≡ values_of name (map (header_bytes buf) (take i headers))
-value_other buf name headers i d inside is = values_more buf name headers i d inside ∙ ap (λ (t : Bool). values_of name (map (header_bytes buf) (take i headers)) ++ value_if t (header_bytes buf (get_or headers i d)).1) is ∙ append-nil (values_of name (map (header_bytes buf) (take i headers)))
+    → field_values name (map (header_bytes buf) (take (i + 1) headers)) ≡ field_values name (map (header_bytes buf) (take i headers))
+value_other buf name headers i d inside is = values_more buf name headers i d inside ∙ ap (λ (t : Bool). field_values name (map (header_bytes buf) (take i headers)) ++ value_if t (header_bytes buf (get_or headers i d)).1) is ∙ append-nil (field_values name (map (header_bytes buf) (take i headers)))
 
 -- whether one of the values passes a test, one field further
-pub any_named : (p : List ℕ → Bool) (buf name : List ℕ) (headers : List HeaderSpan) (i : ℕ) (d : HeaderSpan) → i < length headers → list_any p (values_of name (map (header_bytes buf) (take i headers))) ≡ false → same_ignoring_case (header_bytes buf (get_or headers i d)).0 name ≡ true
-    → list_any p (values_of name (map (header_bytes buf) (take (i + 1) headers))) ≡ p (header_bytes buf (get_or headers i d)).1
+pub any_named : (p : List ℕ → Bool) (buf name : List ℕ) (headers : List HeaderSpan) (i : ℕ) (d : HeaderSpan) → i < length headers → list_any p (field_values name (map (header_bytes buf) (take i headers))) ≡ false → same_ignoring_case (header_bytes buf (get_or headers i d)).0 name ≡ true
+    → list_any p (field_values name (map (header_bytes buf) (take (i + 1) headers))) ≡ p (header_bytes buf (get_or headers i d)).1
 any_named p buf name headers i d inside none is =
-    let values : List (List ℕ) = values_of name (map (header_bytes buf) (take i headers)) in
+    let values : List (List ℕ) = field_values name (map (header_bytes buf) (take i headers)) in
     let value : List ℕ = (header_bytes buf (get_or headers i d)).1 in
     ap (list_any p) (value_named buf name headers i d inside is) ∙ list_any-append p values (value ∷ []) ∙ ap (λ (t : Bool). t || (p value || false)) none ∙ or_false (p value)
   where
@@ -83,14 +83,14 @@ any_named p buf name headers i d inside none is =
     or_false true = refl
     or_false false = refl
 
-pub any_other : (p : List ℕ → Bool) (buf name : List ℕ) (headers : List HeaderSpan) (i : ℕ) (d : HeaderSpan) → i < length headers → list_any p (values_of name (map (header_bytes buf) (take i headers))) ≡ false → same_ignoring_case (header_bytes buf (get_or headers i d)).0 name ≡ false
-    → list_any p (values_of name (map (header_bytes buf) (take (i + 1) headers))) ≡ false
+pub any_other : (p : List ℕ → Bool) (buf name : List ℕ) (headers : List HeaderSpan) (i : ℕ) (d : HeaderSpan) → i < length headers → list_any p (field_values name (map (header_bytes buf) (take i headers))) ≡ false → same_ignoring_case (header_bytes buf (get_or headers i d)).0 name ≡ false
+    → list_any p (field_values name (map (header_bytes buf) (take (i + 1) headers))) ≡ false
 any_other p buf name headers i d inside none is = ap (list_any p) (value_other buf name headers i d inside is) ∙ none
 
 -- a value that passes among the first ones is among all
-pub any_from_front : (p : List ℕ → Bool) (buf name : List ℕ) (headers : List HeaderSpan) (n : ℕ) → list_any p (values_of name (map (header_bytes buf) (take n headers))) ≡ true → list_any p (values_of name (map (header_bytes buf) headers)) ≡ true
+pub any_from_front : (p : List ℕ → Bool) (buf name : List ℕ) (headers : List HeaderSpan) (n : ℕ) → list_any p (field_values name (map (header_bytes buf) (take n headers))) ≡ true → list_any p (field_values name (map (header_bytes buf) headers)) ≡ true
 any_from_front p buf name headers n is =
     let front : List (List ℕ × List ℕ) = map (header_bytes buf) (take n headers) in
     let back : List (List ℕ × List ℕ) = map (header_bytes buf) (drop n headers) in
     let split : map (header_bytes buf) headers ≡ front ++ back = ap (map (header_bytes buf)) (sym (take-append-drop n headers)) ∙ map-append (header_bytes buf) (take n headers) (drop n headers) in
-    ap (λ (l : List (List ℕ × List ℕ)). list_any p (values_of name l)) split ∙ ap (list_any p) (values_of-append name front back) ∙ list_any-append p (values_of name front) (values_of name back) ∙ or_left (list_any p (values_of name front)) (list_any p (values_of name back)) is
+    ap (λ (l : List (List ℕ × List ℕ)). list_any p (field_values name l)) split ∙ ap (list_any p) (field_values-append name front back) ∙ list_any-append p (field_values name front) (field_values name back) ∙ or_left (list_any p (field_values name front)) (list_any p (field_values name back)) is

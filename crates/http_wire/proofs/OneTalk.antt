@@ -12,10 +12,10 @@ use Rattle.http_wire.specs.declared.framing.Framing.TheVariants.{Bad as BadField
 use Rattle.http_wire.specs.declared.request.Request.{Request}
 use Rattle.http_wire.specs.Framing.{framing}
 use Rattle.http_wire.specs.Heads.{HasNoHead}
-use Rattle.http_wire.specs.ChunkedBodies.{ChunkedBody, print_body, ReadsBody, HasNoBody, PassesLimit, chunk_data as joined}
-use Rattle.http_wire.specs.inner.ChunkDecoder.{Decoding, decoding, start}
+use Rattle.http_wire.specs.ChunkedBodies.{ChunkedBody, print_chunked_body, ReadsChunkedBody, HasNoChunkedBody, ExceedsBodyLimit, chunk_data as joined}
+use Rattle.http_wire.specs.inner.ChunkDecoder.{Decoding, decoding, initial_decoding}
 use Rattle.http_wire.specs.declared.chunk_decoder.ChunkState.TheVariants.{Done, TooLong}
-use Rattle.http_wire.specs.Items.{Item, asks, bad, too_long, coded, request_of, BeginsWithFramedHead, AfterHead, IsFramed, AsksFor, with_length, in_chunks, IsBad, no_head, bad_fields, body_cut, no_body, IsTooLong, long_body, long_chunks, FirstItem, EqualRests, ends_connection, IsItemSequence}
+use Rattle.http_wire.specs.ConnectionItems.{Item, asks, bad, too_long, coded, request_of, BeginsWithFramedHead, HoldsAfterHead, HasFraming, AsksFor, with_length, in_chunks, IsBadRequest, no_head, bad_fields, body_cut, no_body, HasTooLongBody, long_body, long_chunks, IsFirstItem, HaveEqualRests, ends_connection, IsItemSequence}
 use Rattle.http_wire.specs.inner.ReadBuffer.{HasNoBodyYet}
 use Rattle.http_wire.proofs.Fronts.{head_feeds}
 use Rattle.http_wire.proofs.BodyRuns.{settles_once, reads_body}
@@ -38,14 +38,14 @@ same_head bytes h k f g r q x y =
 
 -- a chunked body within the limit
 abbrev HasShort : List ℕ → Type 0
-HasShort bytes = (c : ChunkedBody) × (rest : List ℕ) × ReadsBody bytes c rest × (length (joined c.chunks) ≤ 262_144)
+HasShort bytes = (c : ChunkedBody) × (rest : List ℕ) × ReadsChunkedBody bytes c rest × (length (joined c.chunks) ≤ 262_144)
 
 abbrev KindIs : Framing → List ℕ → ℕ → Type 0
 KindIs BadFields behind k = k ≡ 1
 KindIs OtherCoding behind k = k ≡ 3
 KindIs LongBody behind k = k ≡ 2
 KindIs (Length len) behind k = ((len ≤ length behind) × (k ≡ 0)) ⊎ ((length behind < len) × (k ≡ 1))
-KindIs Chunked behind k = (HasShort behind × (k ≡ 0)) ⊎ ((PassesLimit behind × (k ≡ 2)) ⊎ (HasNoBodyYet behind × (k ≡ 1)))
+KindIs Chunked behind k = (HasShort behind × (k ≡ 0)) ⊎ ((ExceedsBodyLimit behind × (k ≡ 2)) ⊎ (HasNoBodyYet behind × (k ≡ 1)))
 
 abbrev Begun : List ℕ → ℕ → Type 0
 Begun bytes k = (head : RequestHead) × (what : Framing) × (behind : List ℕ) × BeginsWithFramedHead bytes head what behind × KindIs what behind k
@@ -59,34 +59,34 @@ kind bad = 1
 kind too_long = 2
 kind coded = 3
 
-follows_kind : (bytes : List ℕ) (what : Framing) (P : List ℕ → Type 0) (k : ℕ) → AfterHead what bytes P → ((rest : List ℕ) → P rest → KindIs what rest k) → HasKind bytes k
+follows_kind : (bytes : List ℕ) (what : Framing) (P : List ℕ → Type 0) (k : ℕ) → HoldsAfterHead what bytes P → ((rest : List ℕ) → P rest → KindIs what rest k) → HasKind bytes k
 follows_kind bytes what P k f each = inr (f.head, what, f.rest, f.opens, each f.rest f.behind)
 
-framed_kind : (bytes : List ℕ) (what : Framing) (k : ℕ) → IsFramed what bytes → ((rest : List ℕ) → KindIs what rest k) → HasKind bytes k
+framed_kind : (bytes : List ℕ) (what : Framing) (k : ℕ) → HasFraming what bytes → ((rest : List ℕ) → KindIs what rest k) → HasKind bytes k
 framed_kind bytes what k f each = inr (f.0, what, f.1, f.2, each f.1)
 
-bad_kind : (bytes : List ℕ) → IsBad bytes → HasKind bytes 1
+bad_kind : (bytes : List ℕ) → IsBadRequest bytes → HasKind bytes 1
 bad_kind bytes (no_head some none) = inl (some, none, refl)
 bad_kind bytes (bad_fields f) = framed_kind bytes BadFields 1 f (λ rest. refl)
 bad_kind bytes (body_cut len f) = follows_kind bytes (Length len) (λ rest. length rest < len) 1 f (λ rest fewer. inr (fewer, refl))
-bad_kind bytes (no_body f) = follows_kind bytes Chunked (λ rest. HasNoBody rest × ¬ (PassesLimit rest)) 1 f (λ rest none. inr (inr (none, refl)))
+bad_kind bytes (no_body f) = follows_kind bytes Chunked (λ rest. HasNoChunkedBody rest × ¬ (ExceedsBodyLimit rest)) 1 f (λ rest none. inr (inr (none, refl)))
 
-long_kind : (bytes : List ℕ) → IsTooLong bytes → HasKind bytes 2
+long_kind : (bytes : List ℕ) → HasTooLongBody bytes → HasKind bytes 2
 long_kind bytes (long_body f) = framed_kind bytes LongBody 2 f (λ rest. refl)
-long_kind bytes (long_chunks f) = follows_kind bytes Chunked PassesLimit 2 f (λ rest passes. inr (inl (passes, refl)))
+long_kind bytes (long_chunks f) = follows_kind bytes Chunked ExceedsBodyLimit 2 f (λ rest passes. inr (inl (passes, refl)))
 
 asks_kind : (before : ℕ) (bytes : List ℕ) (request : Request) (rest : List ℕ) → AsksFor before bytes request rest → HasKind bytes 0
 asks_kind before bytes request rest (with_length head body opens is) = inr (head, Length (length body), body ++ rest, opens, inl (omega (arith, length-append body rest), refl))
 asks_kind before bytes request rest (in_chunks head behind body opens reads short is) = inr (head, Chunked, behind, opens, inl ((body, rest, reads, short), refl))
 
-has_kind : (before : ℕ) (bytes rest : List ℕ) (item : Item) → FirstItem before bytes item rest → HasKind bytes (kind item)
+has_kind : (before : ℕ) (bytes rest : List ℕ) (item : Item) → IsFirstItem before bytes item rest → HasKind bytes (kind item)
 has_kind before bytes rest (asks request) first = asks_kind before bytes request rest first
 has_kind before bytes rest bad first = bad_kind bytes first
 has_kind before bytes rest too_long first = long_kind bytes first
 has_kind before bytes rest coded first = framed_kind bytes OtherCoding 3 first (λ r. refl)
 
 -- a body within the limit doesn't pass it
-pub short_or_long : (bytes : List ℕ) → HasShort bytes → PassesLimit bytes → ⊥
+pub short_or_long : (bytes : List ℕ) → HasShort bytes → ExceedsBodyLimit bytes → ⊥
 short_or_long bytes h passes =
     let x = short_settles bytes h.0 h.1 h.2 h.3 in
     let y = limit_settles bytes passes in
@@ -157,16 +157,16 @@ one_request before bytes rest other a b (in_chunks p behind body opens reads sho
     let same = same_head bytes p q Chunked Chunked behind behind' opens opens' in
     let heads : p ≡ q = same.0 in
     let one_behind : behind ≡ behind' = same.2 in
-    let one = settles_once start (print_body body) (print_body body') rest other (decoding Done (joined body.chunks)) (decoding Done (joined body'.chunks)) (reads_body body reads.0 short) (reads_body body' reads'.0 short') (sym reads.1 ∙ one_behind ∙ reads'.1) refl refl in
+    let one = settles_once initial_decoding (print_chunked_body body) (print_chunked_body body') rest other (decoding Done (joined body.chunks)) (decoding Done (joined body'.chunks)) (reads_body body reads.0 short) (reads_body body' reads'.0 short') (sym reads.1 ∙ one_behind ∙ reads'.1) refl refl in
     let bodies : joined body.chunks ≡ joined body'.chunks = ap (λ (d : Decoding). d.body) one.0 in (
       is ∙ ap (λ (h : RequestHead). request_of before h (joined body.chunks)) heads ∙ ap (request_of before q) bodies ∙ sym is',
       one.2,
     )
 
-pub one_first_item : (before : ℕ) (bytes rest other : List ℕ) (x y : Item) → FirstItem before bytes x rest → FirstItem before bytes y other → (x ≡ y) × EqualRests x rest other
+pub one_first_item : (before : ℕ) (bytes rest other : List ℕ) (x y : Item) → IsFirstItem before bytes x rest → IsFirstItem before bytes y other → (x ≡ y) × HaveEqualRests x rest other
 one_first_item before bytes rest other x y p q = by_kind x y p q (one_kind bytes (kind x) (kind y) (has_kind before bytes rest x p) (has_kind before bytes other y q))
   where
-    by_kind : (x y : Item) → FirstItem before bytes x rest → FirstItem before bytes y other → kind x ≡ kind y → (x ≡ y) × EqualRests x rest other
+    by_kind : (x y : Item) → IsFirstItem before bytes x rest → IsFirstItem before bytes y other → kind x ≡ kind y → (x ≡ y) × HaveEqualRests x rest other
     by_kind (asks a) (asks b) p q same = let one = one_request before bytes rest other a b p q in (ap asks one.0, one.1)
     by_kind bad bad p q same = (refl, tt)
     by_kind too_long too_long p q same = (refl, tt)
@@ -185,7 +185,7 @@ one_first_item before bytes rest other x y p q = by_kind x y p q (one_kind bytes
     by_kind coded too_long p q same = absurd (omega (arith, same))
 
 -- no item is first in no bytes
-some_item_bytes : (before : ℕ) (bytes rest : List ℕ) (item : Item) → FirstItem before bytes item rest → 0 < length bytes
+some_item_bytes : (before : ℕ) (bytes rest : List ℕ) (item : Item) → IsFirstItem before bytes item rest → 0 < length bytes
 some_item_bytes before bytes rest item first = by_kind (has_kind before bytes rest item first)
   where
     by_kind : HasKind bytes (kind item) → 0 < length bytes
@@ -203,7 +203,7 @@ one_talk before bytes (x ∷ xs) (y ∷ ys) p q =
     let tails : xs ≡ ys = by_end next x (ends_connection x) refl one.1 p.2 (subst (λ (i : Item). MatchBool (ends_connection i) (ys ≡ []) (IsItemSequence (before + 1) q.0 ys)) (sym items) q.2) in
     cc
   where
-    by_end : ((l : List ℕ) → IsItemSequence (before + 1) l xs → IsItemSequence (before + 1) l ys → xs ≡ ys) → (x : Item) (b : Bool) → ends_connection x ≡ b → EqualRests x p.0 q.0 → MatchBool (ends_connection x) (xs ≡ []) (IsItemSequence (before + 1) p.0 xs) → MatchBool (ends_connection x) (ys ≡ []) (IsItemSequence (before + 1) q.0 ys) → xs ≡ ys
+    by_end : ((l : List ℕ) → IsItemSequence (before + 1) l xs → IsItemSequence (before + 1) l ys → xs ≡ ys) → (x : Item) (b : Bool) → ends_connection x ≡ b → HaveEqualRests x p.0 q.0 → MatchBool (ends_connection x) (xs ≡ []) (IsItemSequence (before + 1) p.0 xs) → MatchBool (ends_connection x) (ys ≡ []) (IsItemSequence (before + 1) q.0 ys) → xs ≡ ys
     by_end next (asks r) true ends same u v = MatchBool-at_true (xs ≡ []) (IsItemSequence (before + 1) p.0 xs) ends u ∙ sym (MatchBool-at_true (ys ≡ []) (IsItemSequence (before + 1) q.0 ys) ends v)
     by_end next (asks r) false ends same u v =
         next p.0 (MatchBool-at_false (xs ≡ []) (IsItemSequence (before + 1) p.0 xs) ends u)

@@ -15,28 +15,28 @@ abbrev pub same_ignoring_case : List ℕ → List ℕ → Bool
 same_ignoring_case a b = bytes_eq (map to_ascii_lowercase a) (map to_ascii_lowercase b)
 
 -- the values of the fields of that name, in order
-abbrev pub values_of : List ℕ → List (List ℕ × List ℕ) → List (List ℕ)
-values_of name [] = []
-values_of name (field ∷ fields) =
-    if same_ignoring_case field.0 name then field.1 ∷ values_of name fields
-    else values_of name fields
+abbrev pub field_values : List ℕ → List (List ℕ × List ℕ) → List (List ℕ)
+field_values name [] = []
+field_values name (field ∷ fields) =
+    if same_ignoring_case field.0 name then field.1 ∷ field_values name fields
+    else field_values name fields
 
 -- the result of looking up a field that has these values
-abbrev pub Found : FieldLookup → List (List ℕ) → Type 0
-Found Absent values = values ≡ []
-Found (Once value) values = values ≡ value.now ∷ []
-Found Repeated values = 2 ≤ length values
+abbrev pub IsLookupOf : FieldLookup → List (List ℕ) → Type 0
+IsLookupOf Absent values = values ≡ []
+IsLookupOf (Once value) values = values ≡ value.now ∷ []
+IsLookupOf Repeated values = 2 ≤ length values
 
 -- one digit or more, and nothing else
 abbrev pub is_number : List ℕ → Bool
 is_number bytes = nat_lt 0 (length bytes) && list_all is_ascii_digit bytes
 
 -- one of the parts between commas is `close`
-unfoldable pub has_close : List ℕ → Bool
-has_close value =
+unfoldable pub has_close_option : List ℕ → Bool
+has_close_option value =
     list_any (λ part. same_ignoring_case (trim_ows part) (codes "close"))
     (slice_split (λ b. b == comma) value)
 
 -- a `Connection` field asks to end the connection after the reply
 unfoldable pub asks_to_close : List (List ℕ × List ℕ) → Bool
-asks_to_close fields = list_any has_close (values_of (codes "connection") fields)
+asks_to_close fields = list_any has_close_option (field_values (codes "connection") fields)

@@ -1,7 +1,7 @@
 // Reads a chunked body from the source, after its head.
 ghost use Rattle.std.specs.Prelude.{◌≤◌, length};
-ghost use Rattle.xcap_io.specs.Causes.{OnlyReads};
-ghost use Rattle.http_wire.specs.inner.ReadBuffer.{Decodes};
+ghost use Rattle.xcap_io.specs.StreamStates.{OnlyReads};
+ghost use Rattle.http_wire.specs.inner.ReadBuffer.{DecodesBody};
 
 use crate::chunk_decoder::{ChunkState, Decoder};
 use crate::limits::MAX_HEAD_BYTES;
@@ -21,7 +21,7 @@ pub enum DecodeResult {
 
 // Decodes the body after a head of `head` bytes, as its bytes arrive. Decoded bytes leave the
 // buffer.
-pub fn decode<S: Source>(
+pub fn decode_body<S: Source>(
     source: &mut S,
     read_buffer: &mut ReadBuffer,
     decoder: &mut Decoder,
@@ -29,7 +29,7 @@ pub fn decode<S: Source>(
 ) -> Result<DecodeResult, ReadFault>
     requires inside { head ≤ length read_buffer.old }
     requires length_bounded { head ≤ MAX_HEAD_BYTES }
-    ensures decodes_body { Decodes head
+    ensures decodes_body { DecodesBody head
         (record { held = read_buffer.old; source = (S.state source.old).inward }) result
         decoder.new.body
         (record { held = read_buffer.new; source = (S.state source.new).inward }) }

@@ -1,11 +1,14 @@
 // Decodes chunked bodies as their bytes arrive (RFC 9112, section 7.1).
 ghost use Rattle.std.specs.Prelude.{◌≡◌, ◌<◌, ◌≤◌, ◌+◌, length, take, false, IfOk};
-ghost use Rattle.http_wire.specs.inner.ChunkDecoder.{Decoding, start, is_settled, is_data};
-ghost use Rattle.http_wire.specs.inner.ChunkDecoder.{after_digits, in_digits, in_extension};
-ghost use Rattle.http_wire.specs.inner.ChunkDecoder.{after_line};
-ghost use Rattle.http_wire.specs.inner.ChunkDecoder.{in_trailers, if_feed, next_stage};
+ghost use Rattle.http_wire.specs.inner.ChunkDecoder.{Decoding, initial_decoding, is_settled};
+ghost use Rattle.http_wire.specs.inner.ChunkDecoder.{expects_data};
+ghost use Rattle.http_wire.specs.inner.ChunkDecoder.{state_after_digits, state_in_digits};
+ghost use Rattle.http_wire.specs.inner.ChunkDecoder.{state_in_extension};
+ghost use Rattle.http_wire.specs.inner.ChunkDecoder.{state_after_line};
+ghost use Rattle.http_wire.specs.inner.ChunkDecoder.{state_in_trailers, state_if_line_feed};
+ghost use Rattle.http_wire.specs.inner.ChunkDecoder.{next_state};
 ghost use Rattle.http_wire.specs.inner.ChunkDecoder.{next_decoding};
-ghost use Rattle.http_wire.specs.inner.ChunkDecoder.{ReadsOn, Fits};
+ghost use Rattle.http_wire.specs.inner.ChunkDecoder.{DecodesBytes, IsWithinLimits};
 
 use crate::limits::{MAX_BODY_BYTES, MAX_DIGITS, MAX_LINE, MAX_TRAILER_BYTES};
 use httparse::{is_header_value_token, is_space_or_tab, parse_hex_digit};
@@ -43,9 +46,9 @@ pub enum ChunkState {
     TooLong,
 }
 
-fn after_digits(value: usize, len: usize, byte: u8) -> ChunkState
+fn state_after_digits(value: usize, len: usize, byte: u8) -> ChunkState
     requires { len ≤ MAX_LINE }
-    ensures exact { result ≡ after_digits value len byte }
+    ensures exact { result ≡ state_after_digits value len byte }
 {
     if byte == b'\r' {
         ChunkState::SizeEnd { value }
@@ -66,10 +69,10 @@ fn after_digits(value: usize, len: usize, byte: u8) -> ChunkState
     }
 }
 
-fn in_digits(digits: usize, value: usize, byte: u8) -> ChunkState
+fn state_in_digits(digits: usize, value: usize, byte: u8) -> ChunkState
     requires within_max { digits ≤ MAX_DIGITS }
     requires capped { value ≤ MAX_BODY_BYTES + 1 }
-    ensures exact { result ≡ in_digits digits value byte }
+    ensures exact { result ≡ state_in_digits digits value byte }
 {
     match parse_hex_digit(byte) {
         Some(_) if digits >= MAX_DIGITS => ChunkState::Bad,
@@ -78,13 +81,13 @@ fn in_digits(digits: usize, value: usize, byte: u8) -> ChunkState
             value: (value * 16 + digit as usize).min(MAX_BODY_BYTES + 1),
         },
         None if digits == 0 => ChunkState::Bad,
-        None => after_digits(value, digits, byte),
+        None => state_after_digits(value, digits, byte),
     }
 }
 
-fn in_extension(value: usize, len: usize, byte: u8) -> ChunkState
+fn state_in_extension(value: usize, len: usize, byte: u8) -> ChunkState
     requires { len ≤ MAX_LINE }
-    ensures exact { result ≡ in_extension value len byte }
+    ensures exact { result ≡ state_in_extension value len byte }
 {
     if byte == b'\r' {
         ChunkState::SizeEnd { value }
@@ -98,10 +101,10 @@ fn in_extension(value: usize, len: usize, byte: u8) -> ChunkState
     }
 }
 
-fn after_line(value: usize, decoded: usize, byte: u8) -> ChunkState
+fn state_after_line(value: usize, decoded: usize, byte: u8) -> ChunkState
     requires capped { value ≤ MAX_BODY_BYTES + 1 }
     requires room_left { decoded ≤ MAX_BODY_BYTES }
-    ensures exact { result ≡ after_line value decoded byte }
+    ensures exact { result ≡ state_after_line value decoded byte }
 {
     if byte != b'\n' {
         ChunkState::Bad
@@ -114,9 +117,9 @@ fn after_line(value: usize, decoded: usize, byte: u8) -> ChunkState
     }
 }
 
-fn in_trailers(used: usize, byte: u8, end: ChunkState) -> ChunkState
+fn state_in_trailers(used: usize, byte: u8, end: ChunkState) -> ChunkState
     requires { used ≤ MAX_TRAILER_BYTES }
-    ensures exact { result ≡ in_trailers used byte end }
+    ensures exact { result ≡ state_in_trailers used byte end }
 {
     if byte == b'\r' {
         end
@@ -127,40 +130,43 @@ fn in_trailers(used: usize, byte: u8, end: ChunkState) -> ChunkState
     }
 }
 
-fn if_feed(byte: u8, next: ChunkState) -> ChunkState
-    ensures exact { result ≡ if_feed byte next }
+fn state_if_line_feed(byte: u8, next: ChunkState) -> ChunkState
+    ensures exact { result ≡ state_if_line_feed byte next }
 {
     if byte == b'\n' { next } else { ChunkState::Bad }
 }
 
 // The state after a byte that is not a chunk's data.
-fn next_stage(stage: ChunkState, decoded: usize, byte: u8) -> ChunkState
-    requires fits { Fits stage decoded }
-    requires not_data { is_data stage ≡ false }
-    ensures exact { result ≡ next_stage stage decoded byte }
+pub fn next_state(stage: ChunkState, decoded: usize, byte: u8) -> ChunkState
+    requires fits { IsWithinLimits stage decoded }
+    requires not_data { expects_data stage ≡ false }
+    ensures exact { result ≡ next_state stage decoded byte }
 {
     match stage {
-        ChunkState::Size { digits, value } => in_digits(digits, value, byte),
-        ChunkState::Blank { value, len } => after_digits(value, len, byte),
-        ChunkState::Extension { value, len } => in_extension(value, len, byte),
-        ChunkState::SizeEnd { value } => after_line(value, decoded, byte),
+        ChunkState::Size { digits, value } => state_in_digits(digits, value, byte),
+        ChunkState::Blank { value, len } => state_after_digits(value, len, byte),
+        ChunkState::Extension { value, len } => state_in_extension(value, len, byte),
+        ChunkState::SizeEnd { value } => state_after_line(value, decoded, byte),
         ChunkState::Data { .. } if byte == b'\r' => ChunkState::DataEnd,
         ChunkState::Data { .. } => ChunkState::Bad,
-        ChunkState::DataEnd => if_feed(
+        ChunkState::DataEnd => state_if_line_feed(
             byte,
             ChunkState::Size {
                 digits: 0,
                 value: 0,
             },
         ),
-        ChunkState::Trailers { used } => in_trailers(used, byte, ChunkState::LastEnd),
-        ChunkState::Trailer { used } => in_trailers(
+        ChunkState::Trailers { used } => state_in_trailers(used, byte, ChunkState::LastEnd),
+        ChunkState::Trailer { used } => state_in_trailers(
             used,
             byte,
             ChunkState::TrailerEnd { used: used + 1 },
         ),
-        ChunkState::TrailerEnd { used } => if_feed(byte, ChunkState::Trailers { used: used + 1 }),
-        ChunkState::LastEnd => if_feed(byte, ChunkState::Done),
+        ChunkState::TrailerEnd { used } => state_if_line_feed(
+            byte,
+            ChunkState::Trailers { used: used + 1 },
+        ),
+        ChunkState::LastEnd => state_if_line_feed(byte, ChunkState::Done),
         ChunkState::Done | ChunkState::Bad | ChunkState::TooLong => stage,
     }
 }
@@ -175,7 +181,7 @@ pub struct Decoder {
 
 impl Model for Decoder {
     ghost use Rattle.std.specs.Prelude.{◌≡◌, ◌≤◌, length, take};
-    ghost use Rattle.http_wire.specs.inner.ChunkDecoder.{Decoding, Fits};
+    ghost use Rattle.http_wire.specs.inner.ChunkDecoder.{Decoding, IsWithinLimits};
     ghost use Rattle.http_wire.specs.declared.limits.TheConstants.{MAX_BODY_BYTES};
 
     ghost Value = { Decoding };
@@ -184,12 +190,12 @@ impl Model for Decoder {
 
     ghost invariant = { λ d.
         (length d.buffer.items ≡ MAX_BODY_BYTES) × (d.decoded ≤ MAX_BODY_BYTES)
-        × Fits d.stage d.decoded };
+        × IsWithinLimits d.stage d.decoded };
 }
 
 impl Decoder {
     pub fn new(alloc: Global) -> Result<Decoder, NoMemory>
-        ensures ok { IfOk result (λ decoder. decoder ≡ start) }
+        ensures ok { IfOk result (λ decoder. decoder ≡ initial_decoding) }
     {
         Ok(Decoder {
             stage: ChunkState::Size {
@@ -203,7 +209,7 @@ impl Decoder {
 
     // Prepares for the next body.
     pub fn restart(&mut self)
-        ensures exact { self.new ≡ start }
+        ensures exact { self.new ≡ initial_decoding }
     {
         self.stage = ChunkState::Size {
             digits: 0,
@@ -240,7 +246,7 @@ impl Decoder {
         requires data_stage { self.old.stage ≡ ChunkState.Data left }
         requires bytes_due { 0 < left }
         ensures takes_some { (0 < result) × (result ≤ length raw.now) }
-        ensures reads_on { ReadsOn self.old (take result raw.now) self.new }
+        ensures reads_on { DecodesBytes self.old (take result raw.now) self.new }
     {
         let count = left.min(raw.len());
         self.buffer[self.decoded..self.decoded + count].copy_from_slice(&raw[..count]);
@@ -251,10 +257,10 @@ impl Decoder {
 
     fn read_byte(&mut self, byte: u8)
         requires not_settled { is_settled self.old.stage ≡ false }
-        requires not_data { is_data self.old.stage ≡ false }
+        requires not_data { expects_data self.old.stage ≡ false }
         ensures exact { self.new ≡ next_decoding self.old byte }
     {
-        self.stage = next_stage(self.stage, self.decoded, byte);
+        self.stage = next_state(self.stage, self.decoded, byte);
     }
 
     // Reads at least one byte, and returns how many.
@@ -262,7 +268,7 @@ impl Decoder {
         requires nonempty { 0 < length raw.now }
         requires not_settled { is_settled self.old.stage ≡ false }
         ensures takes_some { (0 < result) × (result ≤ length raw.now) }
-        ensures reads_on { ReadsOn self.old (take result raw.now) self.new }
+        ensures reads_on { DecodesBytes self.old (take result raw.now) self.new }
     {
         match self.stage {
             ChunkState::Data { left } if left > 0 => self.take_data(raw, left),
@@ -276,7 +282,7 @@ impl Decoder {
     // Reads until the state is settled or all bytes are read, and returns how many it read.
     pub fn feed(&mut self, raw: &[u8]) -> usize
         ensures at_most_len { result ≤ length raw.now }
-        ensures reads_on { ReadsOn self.old (take result raw.now) self.new }
+        ensures reads_on { DecodesBytes self.old (take result raw.now) self.new }
         ensures all_unless_settled { is_settled self.new.stage ≡ false → result ≡ length raw.now }
     {
         let mut used = 0;

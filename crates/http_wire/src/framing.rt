@@ -5,10 +5,12 @@ ghost use Rattle.std.specs.Prelude.{length, reverse, Some, None, nat_lt, not, co
 ghost use Rattle.std.specs.Str.Parse.{digits_value};
 ghost use Rattle.httparse.specs.Grammar.{skip_ows, trim_ows};
 ghost use Rattle.httparse.specs.Spans.{IsHeaderWithin, header_bytes};
-ghost use Rattle.http_wire.specs.Fields.{same_ignoring_case, values_of, is_number, has_close};
-ghost use Rattle.http_wire.specs.Fields.{asks_to_close, Found};
-ghost use Rattle.http_wire.specs.Framing.{lacks_host, length_by, coding_by, framing};
-ghost use Rattle.http_wire.specs.inner.ReadBuffer.{IsWithinLimit};
+ghost use Rattle.http_wire.specs.Fields.{same_ignoring_case, field_values, is_number};
+ghost use Rattle.http_wire.specs.Fields.{has_close_option};
+ghost use Rattle.http_wire.specs.Fields.{asks_to_close, IsLookupOf};
+ghost use Rattle.http_wire.specs.Framing.{lacks_host, framing_of_lengths, framing_of_codings};
+ghost use Rattle.http_wire.specs.Framing.{framing};
+ghost use Rattle.http_wire.specs.inner.ReadBuffer.{HasLengthWithinLimit};
 
 use crate::limits::MAX_BODY_BYTES;
 use httparse::is_space_or_tab;
@@ -48,9 +50,9 @@ pub fn is_same_ignoring_case(a: &[u8], b: &[u8]) -> bool
 }
 
 impl<'b> FieldLookup<'b> {
-    fn and(self, value: &'b [u8]) -> FieldLookup<'b>
-        ensures finds_one_more { (values : List (List ℕ)) → Found self.entry values
-            → Found result (values ++ value.now ∷ []) }
+    fn with_value(self, value: &'b [u8]) -> FieldLookup<'b>
+        ensures finds_one_more { (values : List (List ℕ)) → IsLookupOf self.entry values
+            → IsLookupOf result (values ++ value.now ∷ []) }
     {
         match self {
             FieldLookup::Absent => FieldLookup::Once(value),
@@ -59,14 +61,14 @@ impl<'b> FieldLookup<'b> {
     }
 
     fn is_absent(self) -> bool
-        ensures none_found_iff { (values : List (List ℕ)) → Found self.entry values
+        ensures none_found_iff { (values : List (List ℕ)) → IsLookupOf self.entry values
             → result ≡ not (nat_lt 0 (length values)) }
     {
         matches!(self, FieldLookup::Absent)
     }
 
     fn is_once(self) -> bool
-        ensures one_found_iff { (values : List (List ℕ)) → Found self.entry values
+        ensures one_found_iff { (values : List (List ℕ)) → IsLookupOf self.entry values
             → result ≡ (length values == 1) }
     {
         matches!(self, FieldLookup::Once(_))
@@ -75,15 +77,15 @@ impl<'b> FieldLookup<'b> {
 
 /// Looks up the field of this name among the headers of a head, ignoring the case of letters (RFC
 /// 9110, section 5.1).
-pub fn find<'b>(buf: &'b [u8], headers: &[HeaderSpan], name: &[u8]) -> FieldLookup<'b>
+pub fn find_field<'b>(buf: &'b [u8], headers: &[HeaderSpan], name: &[u8]) -> FieldLookup<'b>
     requires { All (IsHeaderWithin (length buf.now)) headers.now }
-    ensures finds_values { Found result
-        (values_of name.now (map (header_bytes buf.now) headers.now)) }
+    ensures finds_values { IsLookupOf result
+        (field_values name.now (map (header_bytes buf.now) headers.now)) }
 {
     let mut found = FieldLookup::Absent;
     'fields: for header in headers {
         if is_same_ignoring_case(header.name.of(buf), name) {
-            found = found.and(header.value.of(buf));
+            found = found.with_value(header.value.of(buf));
         }
     }
     found
@@ -108,10 +110,10 @@ fn capped_number(digits: &[u8]) -> Option<usize>
     Some(value)
 }
 
-#[tactic(auto, unfolding(crate::specs::Framing::length_by))]
-fn length_of(value: &[u8]) -> Framing
-    ensures fields_framing { result ≡ length_by (value.now ∷ []) }
-    ensures at_most_limit { IsWithinLimit result }
+#[tactic(auto, unfolding(crate::specs::Framing::framing_of_lengths))]
+fn framing_of_value(value: &[u8]) -> Framing
+    ensures fields_framing { result ≡ framing_of_lengths (value.now ∷ []) }
+    ensures at_most_limit { HasLengthWithinLimit result }
 {
     match capped_number(value) {
         None => Framing::Bad,
@@ -125,27 +127,27 @@ fn lacks_host(buf: &[u8], headers: &[HeaderSpan], version: u8) -> bool
     requires { All (IsHeaderWithin (length buf.now)) headers.now }
     ensures exact { result ≡ lacks_host version (map (header_bytes buf.now) headers.now) }
 {
-    version == 1 && !find(buf, headers, b"host").is_once()
+    version == 1 && !find_field(buf, headers, b"host").is_once()
 }
 
-#[tactic(auto, unfolding(crate::specs::Framing::length_by))]
+#[tactic(auto, unfolding(crate::specs::Framing::framing_of_lengths))]
 fn framing_by_length(lengths: FieldLookup) -> Framing
-    ensures at_most_limit { IsWithinLimit result }
-    ensures fields_framing { (values : List (List ℕ)) → Found lengths.entry values
-        → result ≡ length_by values }
+    ensures at_most_limit { HasLengthWithinLimit result }
+    ensures fields_framing { (values : List (List ℕ)) → IsLookupOf lengths.entry values
+        → result ≡ framing_of_lengths values }
 {
     match lengths {
         FieldLookup::Absent => Framing::Length(0),
-        FieldLookup::Once(value) => length_of(value),
+        FieldLookup::Once(value) => framing_of_value(value),
         FieldLookup::Repeated => Framing::Bad,
     }
 }
 
-#[tactic(auto, unfolding(crate::specs::Framing::coding_by))]
+#[tactic(auto, unfolding(crate::specs::Framing::framing_of_codings))]
 fn framing_by_coding(version: u8, codings: FieldLookup, lengths: FieldLookup) -> Framing
-    ensures at_most_limit { IsWithinLimit result }
-    ensures fields_framing { (coded values : List (List ℕ)) → Found codings.entry coded
-        → Found lengths.entry values → result ≡ coding_by version coded values }
+    ensures at_most_limit { HasLengthWithinLimit result }
+    ensures fields_framing { (coded values : List (List ℕ)) → IsLookupOf codings.entry coded
+        → IsLookupOf lengths.entry values → result ≡ framing_of_codings version coded values }
 {
     match codings {
         FieldLookup::Absent => framing_by_length(lengths),
@@ -160,14 +162,14 @@ fn framing_by_coding(version: u8, codings: FieldLookup, lengths: FieldLookup) ->
 #[tactic(auto, unfolding(crate::specs::Framing::framing))]
 pub fn read_framing(buf: &[u8], headers: &[HeaderSpan], version: u8) -> Framing
     requires { All (IsHeaderWithin (length buf.now)) headers.now }
-    ensures at_most_limit { IsWithinLimit result }
+    ensures at_most_limit { HasLengthWithinLimit result }
     ensures fields_framing { result ≡ framing version (map (header_bytes buf.now) headers.now) }
 {
     if lacks_host(buf, headers, version) {
         return Framing::Bad;
     }
-    let codings = find(buf, headers, b"transfer-encoding");
-    let lengths = find(buf, headers, b"content-length");
+    let codings = find_field(buf, headers, b"transfer-encoding");
+    let lengths = find_field(buf, headers, b"content-length");
     framing_by_coding(version, codings, lengths)
 }
 
@@ -196,17 +198,19 @@ pub fn trim_end(mut bytes: &[u8]) -> &[u8]
 }
 
 #[tactic(auto, unfolding(httparse::specs::Grammar::trim_ows))]
-fn is_close(part: &[u8]) -> bool
+fn is_close_option(part: &[u8]) -> bool
     ensures exact { result ≡ same_ignoring_case (trim_ows part.now) (codes "close") }
 {
     is_same_ignoring_case(trim_end(trim_start(part)), b"close")
 }
 
-#[tactic(auto, unfolding(crate::specs::Fields::has_close))]
-fn has_close(value: &[u8]) -> bool
-    ensures exact { result ≡ has_close value.now }
+#[tactic(auto, unfolding(crate::specs::Fields::has_close_option))]
+fn has_close_option(value: &[u8]) -> bool
+    ensures exact { result ≡ has_close_option value.now }
 {
-    value.split(|b| *b == b',').any(|part| is_close(part))
+    value
+        .split(|b| *b == b',')
+        .any(|part| is_close_option(part))
 }
 
 // Whether a `Connection` field asks to end the connection.
@@ -217,7 +221,7 @@ pub fn asks_to_close(buf: &[u8], headers: &[HeaderSpan]) -> bool
 {
     'fields: for header in headers {
         if is_same_ignoring_case(header.name.of(buf), b"connection")
-            && has_close(header.value.of(buf))
+            && has_close_option(header.value.of(buf))
         {
             return true;
         }

@@ -2,7 +2,7 @@
 ghost use Rattle.std.specs.Prelude.{◌≡◌, ◌==◌, ◌||◌, All, IfOk, length, map, take};
 ghost use Rattle.httparse.specs.Spans.{IsHeaderWithin, IsRequestWithin, header_bytes, span_bytes};
 ghost use Rattle.http_wire.specs.Fields.{asks_to_close};
-ghost use Rattle.http_wire.specs.Items.{field_of};
+ghost use Rattle.http_wire.specs.ConnectionItems.{field_of};
 
 use crate::framing::asks_to_close;
 use crate::limits::MAX_REQUESTS;

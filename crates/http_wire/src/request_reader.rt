@@ -1,9 +1,10 @@
 // The read buffer of a connection, and the request reader around it.
 ghost use Rattle.std.specs.Prelude.{◌≡◌, ◌+◌, ◌-◌, ◌<◌, ◌≤◌, ◌↔◌, [], length, drop, take};
 ghost use Rattle.std.specs.Prelude.{slice_range, IfOk, OnErr, IsTrue};
-ghost use Rattle.xcap_io.specs.Causes.{OnlyReads};
+ghost use Rattle.xcap_io.specs.StreamStates.{OnlyReads};
 ghost use Rattle.http_wire.specs.NextRequests.{RequestReaderState, fresh_request_reader};
-ghost use Rattle.http_wire.specs.inner.ReadBuffer.{Gains, GainedOrEnded, HoldsOrEnded};
+ghost use Rattle.http_wire.specs.inner.ReadBuffer.{BuffersMore, BuffersMoreOrEnds};
+ghost use Rattle.http_wire.specs.inner.ReadBuffer.{BuffersEnoughOrEnds};
 
 use crate::chunk_decoder::Decoder;
 use crate::limits::MAX_HELD_BYTES;
@@ -99,10 +100,10 @@ impl ReadBuffer {
     // to the front: so no byte is moved twice.
     pub fn fill<S: Source>(&mut self, source: &mut S) -> Result<bool, ReadFault>
         requires { length self.old < MAX_HELD_BYTES }
-        ensures gains_source_bytes { Gains self.old self.new (S.state source.old).inward
+        ensures gains_source_bytes { BuffersMore self.old self.new (S.state source.old).inward
             (S.state source.new).inward }
         ensures gained_or_ended { IfOk result
-            (λ more. GainedOrEnded more self.old self.new (S.state source.new).inward) }
+            (λ more. BuffersMoreOrEnds more self.old self.new (S.state source.new).inward) }
         ensures err_unchanged { OnErr result (self.new ≡ self.old) }
         ensures only_reads { OnlyReads (S.state source.old) (S.state source.new) result }
     {
@@ -122,10 +123,10 @@ impl ReadBuffer {
     // Reads until `count` bytes are buffered. False if the source ends before.
     pub fn fill_to<S: Source>(&mut self, source: &mut S, count: usize) -> Result<bool, ReadFault>
         requires { count ≤ MAX_HELD_BYTES }
-        ensures gains_source_bytes { Gains self.old self.new (S.state source.old).inward
+        ensures gains_source_bytes { BuffersMore self.old self.new (S.state source.old).inward
             (S.state source.new).inward }
         ensures enough_or_ended { IfOk result
-            (λ enough. HoldsOrEnded enough count self.new (S.state source.new).inward) }
+            (λ enough. BuffersEnoughOrEnds enough count self.new (S.state source.new).inward) }
         ensures err_before_enough { OnErr result (length self.new < count) }
         ensures only_reads { OnlyReads (S.state source.old) (S.state source.new) result }
     {

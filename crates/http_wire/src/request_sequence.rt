@@ -1,11 +1,11 @@
 // The next request of a connection.
 ghost use Rattle.std.specs.Prelude.{◌≡◌, ◌≤◌, ◌+◌, true, false, Ok};
-ghost use Rattle.xcap_io.specs.Causes.{OnlyReads};
+ghost use Rattle.xcap_io.specs.StreamStates.{OnlyReads};
 ghost use Rattle.httparse.specs.Grammar.{RequestHead};
-ghost use Rattle.http_wire.specs.inner.ReadBuffer.{IsHeadAt, IsOpenAt};
-ghost use Rattle.http_wire.specs.NextRequests.{Asks, IsReaderStateAfter};
+ghost use Rattle.http_wire.specs.inner.ReadBuffer.{IsHeadAt, IsFramedHeadAt};
+ghost use Rattle.http_wire.specs.NextRequests.{ReadsNextRequest, IsReaderStateAfter};
 
-use crate::body_decoder::{DecodeResult, decode};
+use crate::body_decoder::{DecodeResult, decode_body};
 use crate::chunk_decoder::Decoder;
 use crate::framing::{Framing, read_framing};
 use crate::head_scan::read_head;
@@ -17,7 +17,7 @@ use std::alloc::Global;
 use xcap_io::{Line, NoMemory, Source};
 
 // Reads the request whose head was found at the front, with a body of a stated length.
-fn read_plain<S: Source>(
+fn read_with_length<S: Source>(
     alloc: Global,
     source: &mut S,
     read_buffer: &mut ReadBuffer,
@@ -26,9 +26,9 @@ fn read_plain<S: Source>(
     len: usize,
     before: usize,
 ) -> Result<Asked, ReadFault>
-    requires open_at { IsOpenAt read_buffer.old headers.now spans.now (Framing.Length len) }
+    requires open_at { IsFramedHeadAt read_buffer.old headers.now spans.now (Framing.Length len) }
     requires within_body_limit { len ≤ MAX_BODY_BYTES }
-    ensures first_item { Asks before
+    ensures first_item { ReadsNextRequest before
         (record { held = read_buffer.old; source = (S.state source.old).inward }) result
         (record { held = read_buffer.new; source = (S.state source.new).inward }) }
     ensures only_reads { OnlyReads (S.state source.old) (S.state source.new) result }
@@ -57,13 +57,13 @@ fn read_chunked<S: Source>(
     spans: &RequestSpans,
     before: usize,
 ) -> Result<Asked, ReadFault>
-    requires { IsOpenAt read_buffer.old headers.now spans.now Framing.Chunked }
-    ensures first_item { Asks before
+    requires { IsFramedHeadAt read_buffer.old headers.now spans.now Framing.Chunked }
+    ensures first_item { ReadsNextRequest before
         (record { held = read_buffer.old; source = (S.state source.old).inward }) result
         (record { held = read_buffer.new; source = (S.state source.new).inward }) }
     ensures only_reads { OnlyReads (S.state source.old) (S.state source.new) result }
 {
-    match decode(source, read_buffer, decoder, spans.len)? {
+    match decode_body(source, read_buffer, decoder, spans.len)? {
         DecodeResult::Whole(end) => {
             match make_request(
                 alloc,
@@ -96,7 +96,7 @@ fn read_after_head<S: Source>(
     before: usize,
 ) -> Result<Asked, ReadFault>
     requires { (head : RequestHead) × IsHeadAt read_buffer.old headers.now spans.now head }
-    ensures first_item { Asks before
+    ensures first_item { ReadsNextRequest before
         (record { held = read_buffer.old; source = (S.state source.old).inward }) result
         (record { held = read_buffer.new; source = (S.state source.new).inward }) }
     ensures only_reads { OnlyReads (S.state source.old) (S.state source.new) result }
@@ -109,7 +109,15 @@ fn read_after_head<S: Source>(
         Framing::Bad => Ok(Asked::Bad),
         Framing::Coded => Ok(Asked::Coded),
         Framing::TooLong => Ok(Asked::TooLong),
-        Framing::Length(len) => read_plain(alloc, source, read_buffer, headers, spans, len, before),
+        Framing::Length(len) => read_with_length(
+            alloc,
+            source,
+            read_buffer,
+            headers,
+            spans,
+            len,
+            before,
+        ),
         Framing::Chunked => read_chunked(
             alloc,
             source,
@@ -130,7 +138,7 @@ fn read_item<S: Source>(
     decoder: &mut Decoder,
     before: usize,
 ) -> Result<Asked, ReadFault>
-    ensures first_item { Asks before
+    ensures first_item { ReadsNextRequest before
         (record { held = read_buffer.old; source = (S.state source.old).inward }) result
         (record { held = read_buffer.new; source = (S.state source.new).inward }) }
     ensures only_reads { OnlyReads (S.state source.old) (S.state source.new) result }
@@ -170,7 +178,7 @@ pub fn next_request<S: Source>(
         × (request_reader.new ≡ request_reader.old)
         × (S.state source.new ≡ S.state source.old) }
     ensures first_item { request_reader.old.spent ≡ false
-        → Asks request_reader.old.requests
+        → ReadsNextRequest request_reader.old.requests
         (record { held = request_reader.old.held; source = (S.state source.old).inward }) result
         (record { held = request_reader.new.held; source = (S.state source.new).inward }) }
     ensures after_item { IsReaderStateAfter request_reader.old result request_reader.new }

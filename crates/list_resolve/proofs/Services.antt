@@ -2,7 +2,7 @@
 use Rattle.std.proofs.Common.{◌≡◌, ℕ, List, [], ◌∷◌, Option, None, refl, sym, ap, ◌∙◌}
 use Rattle.std.specs.Option.{option_or}
 use Rattle.xml_tree.specs.Tree.{Content, last, more, comment_node, child_elements}
-use Rattle.xml_tree.specs.Edits.{with_text_before}
+use Rattle.xml_tree.specs.Edits.{with_text_prepended}
 use Rattle.xml_tree.specs.Nodes.{content_of}
 use Rattle.xml_tree.specs.declared.tree.Node.{Node}
 use Rattle.xml_tree.specs.declared.tree.Node.TheVariants.{Elem, Chars, Comment}
@@ -15,7 +15,7 @@ first_among uri root (Elem e ∷ ns) = option_or (service_element uri root e) (f
 first_among uri root (Chars t ∷ ns) = first_among uri root ns
 first_among uri root (Comment x ∷ ns) = first_among uri root ns
 
-kids_before : (t : List ℕ) (c : Content) → child_elements (with_text_before t c) ≡ child_elements c
+kids_before : (t : List ℕ) (c : Content) → child_elements (with_text_prepended t c) ≡ child_elements c
 kids_before t (last u) = refl
 kids_before t (more u n ds ats k rest) = refl
 kids_before t (comment_node u x rest) = refl

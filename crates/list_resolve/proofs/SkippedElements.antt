@@ -13,12 +13,12 @@ use Rattle.usage_docs.specs.SchemaTable.{Scope, kind_of}
 use Rattle.list_resolve.specs.declared.document_place.Place.{Place}
 use Rattle.list_resolve.specs.declared.reference.Reference.{Reference}
 use Rattle.list_resolve.specs.References.{reference_of}
-use Rattle.list_resolve.specs.Places.{same_place, is_on}
+use Rattle.list_resolve.specs.ElementPlaces.{same_place, contains_place}
 use Rattle.list_resolve.specs.ScopedElements.{ScopedElement}
 use Rattle.list_resolve.specs.Resolution.{ResolutionContext}
-use Rattle.list_resolve.specs.Walks.{Item, address, mark, kind_items, scoped_element_items, walked}
-use Rattle.list_resolve.specs.inner.WalkStates.{Tally, Gathered, with_collected_item, with_item, with_items}
-use Rattle.list_resolve.specs.inner.SkippedElements.{AreGathered, IsPassed, IsSound, own_items, scoped_element_at}
+use Rattle.list_resolve.specs.Walks.{Item, address, mark, kind_items, scoped_element_items, content_items}
+use Rattle.list_resolve.specs.inner.WalkStates.{Tally, CollectorState, with_collected_item, with_item, with_items}
+use Rattle.list_resolve.specs.inner.SkippedElements.{AreCollectedItems, IsFullyCollected, HasSoundPlaces, own_items, scoped_element_at}
 use Rattle.list_resolve.specs.inner.PlaceTests.{place_exact}
 use Rattle.list_resolve.proofs.Walks.{marks_rise, reference_items}
 
@@ -54,7 +54,7 @@ comes uri s = comes_by uri s.uris (list_any (bytes_eq uri) s.uris) refl
 -- ---- what is collected stays so, and collecting it again changes nothing
 
 still : (items : List Item) (uris more_uris : List (List ℕ)) → ((uri : List ℕ) → list_any (bytes_eq uri) uris ≡ true → list_any (bytes_eq uri) more_uris ≡ true)
-    → AreGathered uris items → AreGathered more_uris items
+    → AreCollectedItems uris items → AreCollectedItems more_uris items
 still [] uris more_uris grow h = tt
 still (address uri ∷ items) uris more_uris grow h = (grow uri h.0, still items uris more_uris grow h.1)
 still (mark ∷ items) uris more_uris grow h = absurd h.0
@@ -66,13 +66,13 @@ again_by uri s false h = absurd cc
 again : (uri : List ℕ) (s : Tally) → list_any (bytes_eq uri) s.uris ≡ true → with_item s (address uri) ≡ s
 again uri s h = again_by uri s (list_any (bytes_eq uri) s.uris) h
 
-pub nothing_more : (items : List Item) (s : Tally) → AreGathered s.uris items → with_items s items ≡ s
+pub nothing_more : (items : List Item) (s : Tally) → AreCollectedItems s.uris items → with_items s items ≡ s
 nothing_more [] s h = refl
 nothing_more (address uri ∷ items) s h = ap (λ (x : Tally). with_items x items) (again uri s h.0) ∙ nothing_more items s h.1
 nothing_more (mark ∷ items) s h = absurd h.0
 
 -- what was collected without a reference is collected
-pub gathered_now : (items : List Item) (s : Tally) → (with_items s items).marks ≡ s.marks → AreGathered (with_items s items).uris items
+pub gathered_now : (items : List Item) (s : Tally) → (with_items s items).marks ≡ s.marks → AreCollectedItems (with_items s items).uris items
 gathered_now [] s h = tt
 gathered_now (address uri ∷ items) s h = (stays_through uri items (with_item s (address uri)) (comes uri s), gathered_now items (with_item s (address uri)) h)
 gathered_now (mark ∷ items) s h = let rise = marks_rise items (with_item s mark) in absurd (omega arith)
@@ -84,12 +84,12 @@ abbrev given_if : (Reference → List Item) → List ℕ → Option ElementKind 
 given_if behind root found e items = option_map_or (λ kind. kind_items behind root kind e items) found []
 
 module _ (one other : Reference → List Item) (root : List ℕ) (uris : List (List ℕ)) where
-  unreferred : (r : Option Reference) → AreGathered uris (reference_items one r) → reference_items one r ≡ reference_items other r
+  unreferred : (r : Option Reference) → AreCollectedItems uris (reference_items one r) → reference_items one r ≡ reference_items other r
   unreferred None h = refl
   unreferred (Some r) h = absurd h.0
 
-  given_alike : (kind : ElementKind) (e : Tree) (items others : List Item) → (AreGathered uris items → items ≡ others)
-      → AreGathered uris (kind_items one root kind e items) → kind_items one root kind e items ≡ kind_items other root kind e others
+  given_alike : (kind : ElementKind) (e : Tree) (items others : List Item) → (AreCollectedItems uris items → items ≡ others)
+      → AreCollectedItems uris (kind_items one root kind e items) → kind_items one root kind e items ≡ kind_items other root kind e others
   given_alike Entry e items others same h = refl
   given_alike EntryList e items others same h = same h
   given_alike EntryRef e items others same h = unreferred (reference_of root EntryRef e.attrs e.content) h
@@ -102,29 +102,29 @@ module _ (one other : Reference → List Item) (root : List ℕ) (uris : List (L
   given_alike Packages e items others same h = refl
   given_alike Package e items others same h = refl
 
-  given_if_alike : (kind : Option ElementKind) (e : Tree) (items others : List Item) → (AreGathered uris items → items ≡ others)
-      → AreGathered uris (given_if one root kind e items) → given_if one root kind e items ≡ given_if other root kind e others
+  given_if_alike : (kind : Option ElementKind) (e : Tree) (items others : List Item) → (AreCollectedItems uris items → items ≡ others)
+      → AreCollectedItems uris (given_if one root kind e items) → given_if one root kind e items ≡ given_if other root kind e others
   given_if_alike None e items others same h = refl
   given_if_alike (Some kind) e items others same h = given_alike kind e items others same h
 
-  both_gathered : (items more_items : List Item) → AreGathered uris (items ++ more_items) → AreGathered uris items × AreGathered uris more_items
+  both_gathered : (items more_items : List Item) → AreCollectedItems uris (items ++ more_items) → AreCollectedItems uris items × AreCollectedItems uris more_items
   both_gathered [] more_items h = (tt, h)
   both_gathered (i ∷ items) more_items h = let rest = both_gathered items more_items h.1 in ((h.0, rest.0), rest.1)
 
-  walked_alike : (row : ElementKind) (c : Scope) (k : Content) → AreGathered uris (walked one root row c k) → walked one root row c k ≡ walked other root row c k
+  walked_alike : (row : ElementKind) (c : Scope) (k : Content) → AreCollectedItems uris (content_items one root row c k) → content_items one root row c k ≡ content_items other root row c k
   walked_alike row c (last t) h = refl
   walked_alike row c (comment_node t x rest) h = walked_alike row c rest h
   walked_alike row c (more t n ds ats k rest) h =
       let kind = kind_of row (c ++ ds ∷ []) n in
-      let inner = walked one root EntryList (c ++ ds ∷ []) k in
-      let parts = both_gathered (given_if one root kind (tree_of n ds ats k) inner) (walked one root row c rest) h in
-      let first = given_if_alike kind (tree_of n ds ats k) inner (walked other root EntryList (c ++ ds ∷ []) k) (walked_alike EntryList (c ++ ds ∷ []) k) parts.0 in
-      ap (λ xs. xs ++ walked one root row c rest) first
-      ∙ ap (λ xs. given_if other root kind (tree_of n ds ats k) (walked other root EntryList (c ++ ds ∷ []) k) ++ xs) (walked_alike row c rest parts.1)
+      let inner = content_items one root EntryList (c ++ ds ∷ []) k in
+      let parts = both_gathered (given_if one root kind (tree_of n ds ats k) inner) (content_items one root row c rest) h in
+      let first = given_if_alike kind (tree_of n ds ats k) inner (content_items other root EntryList (c ++ ds ∷ []) k) (walked_alike EntryList (c ++ ds ∷ []) k) parts.0 in
+      ap (λ xs. xs ++ content_items one root row c rest) first
+      ∙ ap (λ xs. given_if other root kind (tree_of n ds ats k) (content_items other root EntryList (c ++ ds ∷ []) k) ++ xs) (walked_alike row c rest parts.1)
 
-  spot_alike : (s : ScopedElement) → AreGathered uris (scoped_element_items one root s) → scoped_element_items one root s ≡ scoped_element_items other root s
+  spot_alike : (s : ScopedElement) → AreCollectedItems uris (scoped_element_items one root s) → scoped_element_items one root s ≡ scoped_element_items other root s
   spot_alike s h =
-      given_alike s.kind s.element (walked one root EntryList s.scope s.element.content) (walked other root EntryList s.scope s.element.content)
+      given_alike s.kind s.element (content_items one root EntryList s.scope s.element.content) (content_items other root EntryList s.scope s.element.content)
       (walked_alike EntryList s.scope s.element.content) h
 
 for_some : (A : Type 0) (P : A → Type 0) (o : Option A) (x : A) → o ≡ Some x → ForSome o P → P x
@@ -134,35 +134,35 @@ some_for : (A : Type 0) (P : A → Type 0) (o : Option A) (x : A) → o ≡ Some
 some_for A P o x e h = λ y is. subst P (same_Some x y (sym e ∙ is)) h
 
 -- an element at a recorded place gives nothing more
-pub passed_gives : (behind : Reference → List Item) (g : ResolutionContext) (s : Tally) (p : Place) (scoped_element : ScopedElement) → scoped_element_at g p ≡ Some scoped_element → IsPassed g s.uris p
+pub passed_gives : (behind : Reference → List Item) (g : ResolutionContext) (s : Tally) (p : Place) (scoped_element : ScopedElement) → scoped_element_at g p ≡ Some scoped_element → IsFullyCollected g s.uris p
     → with_items s (scoped_element_items behind g.root scoped_element) ≡ s
 passed_gives behind g s p scoped_element at h =
-    let own : AreGathered s.uris (own_items g.root scoped_element) = for_some ScopedElement (λ x. AreGathered s.uris (own_items g.root x)) (scoped_element_at g p) scoped_element at h in
+    let own : AreCollectedItems s.uris (own_items g.root scoped_element) = for_some ScopedElement (λ x. AreCollectedItems s.uris (own_items g.root x)) (scoped_element_at g p) scoped_element at h in
     ap (with_items s) (sym (spot_alike (λ r. []) behind g.root s.uris scoped_element own)) ∙ nothing_more (own_items g.root scoped_element) s own
 
 -- an element that gave no reference may be recorded
 pub is_passed : (behind : Reference → List Item) (g : ResolutionContext) (s new : Tally) (p : Place) (scoped_element : ScopedElement) → scoped_element_at g p ≡ Some scoped_element
-    → new ≡ with_items s (scoped_element_items behind g.root scoped_element) → new.marks ≡ s.marks → IsPassed g new.uris p
+    → new ≡ with_items s (scoped_element_items behind g.root scoped_element) → new.marks ≡ s.marks → IsFullyCollected g new.uris p
 is_passed behind g s new p scoped_element at e same =
     let items = scoped_element_items behind g.root scoped_element in
     let count : (with_items s items).marks ≡ s.marks = ap (λ (x : Tally). x.marks) (sym e) ∙ same in
-    let all : AreGathered new.uris items = subst (λ (x : Tally). AreGathered x.uris items) (sym e) (gathered_now items s count) in
-    let own : AreGathered new.uris (own_items g.root scoped_element) = subst (AreGathered new.uris) (spot_alike behind (λ r. []) g.root new.uris scoped_element all) all in
-    some_for ScopedElement (λ x. AreGathered new.uris (own_items g.root x)) (scoped_element_at g p) scoped_element at own
+    let all : AreCollectedItems new.uris items = subst (λ (x : Tally). AreCollectedItems x.uris items) (sym e) (gathered_now items s count) in
+    let own : AreCollectedItems new.uris (own_items g.root scoped_element) = subst (AreCollectedItems new.uris) (spot_alike behind (λ r. []) g.root new.uris scoped_element all) all in
+    some_for ScopedElement (λ x. AreCollectedItems new.uris (own_items g.root x)) (scoped_element_at g p) scoped_element at own
 
 -- ---- all recorded places
 
 still_passed : (g : ResolutionContext) (uris more_uris : List (List ℕ)) (o : Option ScopedElement) → ((uri : List ℕ) → list_any (bytes_eq uri) uris ≡ true → list_any (bytes_eq uri) more_uris ≡ true)
-    → ForSome o (λ s. AreGathered uris (own_items g.root s)) → ForSome o (λ s. AreGathered more_uris (own_items g.root s))
+    → ForSome o (λ s. AreCollectedItems uris (own_items g.root s)) → ForSome o (λ s. AreCollectedItems more_uris (own_items g.root s))
 still_passed g uris more_uris o grow h = λ s is. still (own_items g.root s) uris more_uris grow (h s is)
 
 all_still : (g : ResolutionContext) (uris more_uris : List (List ℕ)) (ps : List Place) → ((uri : List ℕ) → list_any (bytes_eq uri) uris ≡ true → list_any (bytes_eq uri) more_uris ≡ true)
-    → AllByRecursion (IsPassed g uris) ps → AllByRecursion (IsPassed g more_uris) ps
+    → AllByRecursion (IsFullyCollected g uris) ps → AllByRecursion (IsFullyCollected g more_uris) ps
 all_still g uris more_uris [] grow h = tt
 all_still g uris more_uris (p ∷ ps) grow h = (still_passed g uris more_uris (scoped_element_at g p) grow h.0, all_still g uris more_uris ps grow h.1)
 
 -- one more item leaves them so
-pub sound_with : (g : ResolutionContext) (s : Gathered) (i : Item) → IsSound g s → IsSound g (with_collected_item s i)
+pub sound_with : (g : ResolutionContext) (s : CollectorState) (i : Item) → HasSoundPlaces g s → HasSoundPlaces g (with_collected_item s i)
 sound_with g s i h = all_still g s.tally.uris (with_item s.tally i).uris s.passed (λ uri there. stays uri s.tally i there) h
 
 one_of_by : (P : Place → Type 0) (p q : Place) (ps : List Place) (b : Bool) → same_place p q ≡ b → ((list_any (same_place p) ps ≡ true) → P p) → (b || list_any (same_place p) ps) ≡ true → P q → P p
@@ -174,8 +174,8 @@ one_of P p [] h all = absurd cc
 one_of P p (q ∷ ps) h all = one_of_by P p q ps (same_place p q) refl (λ t. one_of P p ps t all.1) h all.0
 
 -- a place among them is recorded
-pub passed_there : (g : ResolutionContext) (s : Gathered) (p : Place) → is_on s.passed p ≡ true → IsSound g s → IsPassed g s.tally.uris p
-passed_there g s p h sound = one_of (IsPassed g s.tally.uris) p s.passed h sound
+pub passed_there : (g : ResolutionContext) (s : CollectorState) (p : Place) → contains_place s.passed p ≡ true → HasSoundPlaces g s → IsFullyCollected g s.tally.uris p
+passed_there g s p h sound = one_of (IsFullyCollected g s.tally.uris) p s.passed h sound
 
 -- ---- what the code collects
 
@@ -183,14 +183,14 @@ passed_there g s p h sound = one_of (IsPassed g s.tally.uris) p s.passed h sound
 abbrev entry_items : Option (List ℕ) → List Item
 entry_items found = option_map_or (λ uri. address uri ∷ []) found []
 
-pub entry_gathered : (g : ResolutionContext) (uri : List ℕ) (o : Option (List ℕ)) (old new : Gathered) → Some uri ≡ o → new ≡ with_collected_item old (address uri) → IsSound g old
-    → (new.tally ≡ with_items old.tally (entry_items o)) × IsSound g new
+pub entry_gathered : (g : ResolutionContext) (uri : List ℕ) (o : Option (List ℕ)) (old new : CollectorState) → Some uri ≡ o → new ≡ with_collected_item old (address uri) → HasSoundPlaces g old
+    → (new.tally ≡ with_items old.tally (entry_items o)) × HasSoundPlaces g new
 entry_gathered g uri o old new e h sound = (
-  subst (λ (x : Option (List ℕ)). new.tally ≡ with_items old.tally (entry_items x)) e (ap (λ (x : Gathered). x.tally) h),
-  subst (IsSound g) (sym h) (sound_with g old (address uri) sound),
+  subst (λ (x : Option (List ℕ)). new.tally ≡ with_items old.tally (entry_items x)) e (ap (λ (x : CollectorState). x.tally) h),
+  subst (HasSoundPlaces g) (sym h) (sound_with g old (address uri) sound),
 )
 
 -- a recorded place
-pub once_passed : (behind : Reference → List Item) (g : ResolutionContext) (old : Gathered) (p : Place) (scoped_element : ScopedElement) → scoped_element_at g p ≡ Some scoped_element → is_on old.passed p ≡ true → IsSound g old
-    → (old.tally ≡ with_items old.tally (scoped_element_items behind g.root scoped_element)) × IsSound g old
+pub once_passed : (behind : Reference → List Item) (g : ResolutionContext) (old : CollectorState) (p : Place) (scoped_element : ScopedElement) → scoped_element_at g p ≡ Some scoped_element → contains_place old.passed p ≡ true → HasSoundPlaces g old
+    → (old.tally ≡ with_items old.tally (scoped_element_items behind g.root scoped_element)) × HasSoundPlaces g old
 once_passed behind g old p scoped_element at on sound = (sym (passed_gives behind g old.tally p scoped_element at (passed_there g old p on sound)), sound)

@@ -2,12 +2,12 @@
 use Rattle.std.proofs.Common.{◌≡◌, ℕ, Bool, true, false, ◌&&◌, List, [], ◌∷◌, ◌++◌, refl, sym, ap, ◌∙◌, append_assoc, if◌then◌else◌, arith}
 use Rattle.std.specs.Str.{bytes_eq}
 use Rattle.xml_tree.specs.Tree.{Content, last, more, comment_node}
-use Rattle.xml_tree.specs.Edits.{with_text_before}
+use Rattle.xml_tree.specs.Edits.{with_text_prepended}
 use Rattle.xml_tree.specs.Nodes.{content_of}
 use Rattle.xml_tree.specs.declared.tree.Node.{Node}
 use Rattle.xml_tree.specs.declared.tree.Node.TheVariants.{Elem, Chars, Comment}
-use Rattle.usage_docs.specs.Forms.{trim_back}
-use Rattle.usage_docs.specs.Texts.{text_of}
+use Rattle.usage_docs.specs.ReferenceForms.{trim_back}
+use Rattle.usage_docs.specs.ContentTexts.{content_text}
 
 -- ---- the text of nodes
 
@@ -17,19 +17,19 @@ nodes_text (Elem e ∷ ns) = nodes_text ns
 nodes_text (Chars t ∷ ns) = t ++ nodes_text ns
 nodes_text (Comment x ∷ ns) = nodes_text ns
 
-text_before : (t : List ℕ) (c : Content) → text_of (with_text_before t c) ≡ t ++ text_of c
+text_before : (t : List ℕ) (c : Content) → content_text (with_text_prepended t c) ≡ t ++ content_text c
 text_before t (last u) = refl
-text_before t (more u n ds ats k rest) = append_assoc t u (text_of rest)
-text_before t (comment_node u x rest) = append_assoc t u (text_of rest)
+text_before t (more u n ds ats k rest) = append_assoc t u (content_text rest)
+text_before t (comment_node u x rest) = append_assoc t u (content_text rest)
 
-nodes_are : (ns : List Node) → nodes_text ns ≡ text_of (content_of ns)
+nodes_are : (ns : List Node) → nodes_text ns ≡ content_text (content_of ns)
 nodes_are [] = refl
 nodes_are (Elem e ∷ ns) = nodes_are ns
 nodes_are (Chars t ∷ ns) = ap (λ u. t ++ u) (nodes_are ns) ∙ sym (text_before t (content_of ns))
 nodes_are (Comment x ∷ ns) = nodes_are ns
 
-pub all_text : (ns : List Node) (content : Content) → content_of ns ≡ content → nodes_text ns ≡ text_of content
-all_text ns content e = nodes_are ns ∙ ap text_of e
+pub all_text : (ns : List Node) (content : Content) → content_of ns ≡ content → nodes_text ns ≡ content_text content
+all_text ns content e = nodes_are ns ∙ ap content_text e
 
 -- ---- trailing white space
 

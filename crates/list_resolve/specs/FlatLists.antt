@@ -9,14 +9,14 @@ use Rattle.xml_tree.specs.Tree.{Tree, child_elements_of}
 use Rattle.doc_names.specs.declared.doc_id.DocId.{DocId}
 use Rattle.usage_docs.specs.declared.schema_table.ElementKind.TheVariants as kinds
 use Rattle.usage_docs.specs.declared.schema_table.Key.TheVariants.{Uri}
-use Rattle.usage_docs.specs.Keys.{value_of}
+use Rattle.usage_docs.specs.KeyAttributes.{value_of}
 use Rattle.store_core.specs.Contents.{StoreContents}
 use Rattle.list_resolve.specs.declared.uri_collector.TheConstants.{MARK_LIMIT}
 use Rattle.list_resolve.specs.declared.fault.FlatFault.{FlatFault}
 use Rattle.list_resolve.specs.declared.fault.FlatFault.TheVariants.{NoService, TooWide}
 use Rattle.list_resolve.specs.declared.reference.Reference.{Reference}
-use Rattle.list_resolve.specs.ScopedElements.{ScopedElement, child_spot, root_element}
-use Rattle.list_resolve.specs.Resolution.{ResolvedReference, ResolvesReferences, tree_held}
+use Rattle.list_resolve.specs.ScopedElements.{ScopedElement, scoped_child, root_element}
+use Rattle.list_resolve.specs.Resolution.{ResolvedReference, ResolvesReferences, stored_tree}
 use Rattle.list_resolve.specs.Walks.{Item, address, mark, walk}
 
 -- ---- of a walk
@@ -35,8 +35,8 @@ with_address uris uri = if list_any (bytes_eq uri) uris then uris else (uris ++ 
 
 -- the flat list of a walk: its addresses, each where it is first met; unless the walk meets too
 -- many references
-abbrev pub flat_of : List Item → Result (List (List ℕ)) FlatFault
-flat_of items =
+abbrev pub flat_list_of : List Item → Result (List (List ℕ)) FlatFault
+flat_list_of items =
     if nat_lt MARK_LIMIT (count_by is_mark items) then Err TooWide
     else Ok (fold with_address [] (filter_map item_address items))
 
@@ -46,7 +46,7 @@ flat_of items =
 abbrev pub service_element : List ℕ → ScopedElement → Tree → Option ScopedElement
 service_element uri root child_element =
     if option_map_or (λ own. bytes_eq own uri) (value_of Uri child_element.attrs) false
-    then child_spot root child_element
+    then scoped_child root child_element
     else None
 
 -- the first of these children that is the service
@@ -70,5 +70,5 @@ IsFlatList c root doc uri answer =
     × ResolvesReferences (record { documents = c.documents; root = root; home = doc.home })
     resolve_reference
     × (answer
-    ≡ option_map_or (λ service. flat_of (walk resolve_reference root service))
-    (option_and_then (service_of uri) (tree_held c.documents doc)) (Err NoService))
+    ≡ option_map_or (λ service. flat_list_of (walk resolve_reference root service))
+    (option_and_then (service_of uri) (stored_tree c.documents doc)) (Err NoService))

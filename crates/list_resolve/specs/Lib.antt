@@ -1,6 +1,6 @@
 pub mod Documents
+pub mod ElementPlaces
 pub mod FlatLists
-pub mod Places
 pub mod References
 pub mod Resolution
 pub mod ScopedElements

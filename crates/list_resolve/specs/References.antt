@@ -9,9 +9,9 @@ use Rattle.usage_docs.specs.declared.schema_table.ElementKind.TheVariants.{Entry
 use Rattle.usage_docs.specs.declared.schema_table.ElementKind.TheVariants.{EntryRef, External}
 use Rattle.usage_docs.specs.declared.schema_table.ElementKind.TheVariants.{ResourceList}
 use Rattle.usage_docs.specs.declared.schema_table.Key.TheVariants.{Ref, Anchor}
-use Rattle.usage_docs.specs.Keys.{value_of}
-use Rattle.usage_docs.specs.Forms.{trim_text}
-use Rattle.usage_docs.specs.Texts.{text_of}
+use Rattle.usage_docs.specs.KeyAttributes.{value_of}
+use Rattle.usage_docs.specs.ReferenceForms.{trim_text}
+use Rattle.usage_docs.specs.ContentTexts.{content_text}
 use Rattle.xcap_uri.specs.Roots.{slash}
 use Rattle.list_resolve.specs.declared.reference.ReferenceTarget.{ReferenceTarget}
 use Rattle.list_resolve.specs.declared.reference.ReferenceTarget.TheVariants.{AnEntry, AList}
@@ -26,7 +26,7 @@ reference_of root EntryRef ats k =
 reference_of root External ats k =
     option_map (λ value. record { wanted = AList; target = value }) (value_of Anchor ats)
 reference_of root ResourceList ats k =
-    Some (record { wanted = AList; target = trim_text (text_of k) })
+    Some (record { wanted = AList; target = trim_text (content_text k) })
 reference_of root _ ats k = None
 
 -- whether a reference to such a target may lead to an element of this kind

@@ -15,8 +15,8 @@ pub record ScopedElement : Type 0 where
   pub element : Tree
 
 -- a child of such an element, if it has an element kind itself
-abbrev pub child_spot : ScopedElement → Tree → Option ScopedElement
-child_spot s child_element =
+abbrev pub scoped_child : ScopedElement → Tree → Option ScopedElement
+scoped_child s child_element =
     option_map
     (λ kind. record { kind = kind; scope = inside s.scope child_element; element = child_element })
     (kind_of s.kind (inside s.scope child_element) child_element.name)
@@ -26,7 +26,7 @@ abbrev pub scoped_element_below : ScopedElement → List ℕ → Option ScopedEl
 scoped_element_below s [] = Some s
 scoped_element_below s (n ∷ p) =
     option_and_then (λ k. scoped_element_below k p)
-    (option_and_then (child_spot s) (slice_get (child_elements_of s.element) n))
+    (option_and_then (scoped_child s) (slice_get (child_elements_of s.element) n))
 
 -- the root of a document whose root is of this kind
 abbrev pub root_element : ElementKind → Tree → ScopedElement

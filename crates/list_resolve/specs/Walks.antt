@@ -9,11 +9,11 @@ use Rattle.usage_docs.specs.declared.schema_table.ElementKind.{ElementKind}
 use Rattle.usage_docs.specs.declared.schema_table.ElementKind.TheVariants.{EntryList, Entry}
 use Rattle.usage_docs.specs.declared.schema_table.Key.TheVariants.{Uri}
 use Rattle.usage_docs.specs.SchemaTable.{Scope, kind_of}
-use Rattle.usage_docs.specs.Keys.{value_of}
-use Rattle.list_resolve.specs.declared.flat.TheConstants.{CHAIN_LIMIT}
+use Rattle.usage_docs.specs.KeyAttributes.{value_of}
+use Rattle.list_resolve.specs.declared.flat_lists.TheConstants.{CHAIN_LIMIT}
 use Rattle.list_resolve.specs.declared.document_place.Place.{Place}
 use Rattle.list_resolve.specs.declared.reference.Reference.{Reference}
-use Rattle.list_resolve.specs.Places.{is_on}
+use Rattle.list_resolve.specs.ElementPlaces.{contains_place}
 use Rattle.list_resolve.specs.References.{reference_of}
 use Rattle.list_resolve.specs.ScopedElements.{ScopedElement}
 use Rattle.list_resolve.specs.Resolution.{ResolvedReference}
@@ -36,31 +36,33 @@ kind_items behind root kind e items =
 
 -- the walk of the content of an element of this kind, in the scope inside it: the items of its
 -- children that have a kind, in order
-abbrev pub walked : (Reference → List Item) → List ℕ → ElementKind → Scope → Content → List Item
-walked behind root row c (last t) = []
-walked behind root row c (comment_node t x rest) = walked behind root row c rest
-walked behind root row c (more t n ds ats k rest) =
+abbrev pub content_items : (Reference → List Item) → List ℕ → ElementKind → Scope → Content
+    → List Item
+content_items behind root row c (last t) = []
+content_items behind root row c (comment_node t x rest) = content_items behind root row c rest
+content_items behind root row c (more t n ds ats k rest) =
     option_map_or (λ kind.
     kind_items behind root kind (tree_of n ds ats k)
-    (walked behind root EntryList (c ++ ds ∷ []) k))
+    (content_items behind root EntryList (c ++ ds ∷ []) k))
     (kind_of row (c ++ ds ∷ []) n) []
-    ++ walked behind root row c rest
+    ++ content_items behind root row c rest
 
 -- what an element of an element kind gives
 abbrev pub scoped_element_items : (Reference → List Item) → List ℕ → ScopedElement → List Item
 scoped_element_items behind root s =
     kind_items behind root s.kind s.element
-    (walked behind root EntryList s.scope s.element.content)
+    (content_items behind root EntryList s.scope s.element.content)
 
 -- what comes after a mark: what the element that the reference leads to gives, unless it is
 -- already on the chain of elements that the walk is in, to which n more may be added
-abbrev pub walk_after : (Reference → Option ResolvedReference) → List ℕ → ℕ → List Place → Reference
+abbrev pub walk_after_mark : (Reference → Option ResolvedReference) → List ℕ → ℕ → List Place
+    → Reference
     → List Item
-walk_after resolve_reference root zero chain r = []
-walk_after resolve_reference root (suc left) chain r =
+walk_after_mark resolve_reference root zero chain r = []
+walk_after_mark resolve_reference root (suc left) chain r =
     option_map_or (λ l.
-    if is_on chain l.place then []
-    else scoped_element_items (walk_after resolve_reference root left (l.place ∷ chain)) root
+    if contains_place chain l.place then []
+    else scoped_element_items (walk_after_mark resolve_reference root left (l.place ∷ chain)) root
     l.scoped_element)
     (resolve_reference r) []
 
@@ -68,4 +70,5 @@ walk_after resolve_reference root (suc left) chain r =
 -- `CHAIN_LIMIT` elements
 abbrev pub walk : (Reference → Option ResolvedReference) → List ℕ → ScopedElement → List Item
 walk resolve_reference root s =
-    walked (walk_after resolve_reference root CHAIN_LIMIT []) root s.kind s.scope s.element.content
+    content_items
+    (walk_after_mark resolve_reference root CHAIN_LIMIT []) root s.kind s.scope s.element.content

@@ -1,6 +1,6 @@
 //! Places of elements in one user's documents of lists.
 ghost use Rattle.std.specs.Prelude.{◌≡◌};
-ghost use Rattle.list_resolve.specs.Places.{same_place};
+ghost use Rattle.list_resolve.specs.ElementPlaces.{same_place};
 
 use std::hash::{Hash, Hasher};
 use xml_names::Text;
@@ -24,7 +24,7 @@ impl Place {
 
 impl PartialEq for Place {
     ghost use Rattle.std.specs.Cmp.{partial_equiv_from_equiv};
-    ghost use Rattle.list_resolve.specs.Places.{same_place};
+    ghost use Rattle.list_resolve.specs.ElementPlaces.{same_place};
     ghost use Rattle.list_resolve.specs.inner.PlaceTests.{places_equiv};
 
     ghost eq = { same_place };
@@ -43,10 +43,10 @@ impl Eq for Place {
 }
 
 impl Hash for Place {
-    ghost use Rattle.list_resolve.specs.inner.PlaceCodes.{place_fed};
+    ghost use Rattle.list_resolve.specs.inner.PlaceCodes.{place_hash_input};
     ghost use Rattle.list_resolve.specs.inner.PlaceTests.{places_fed};
 
-    ghost hash_input = { place_fed };
+    ghost hash_input = { place_hash_input };
 
     ghost respects_eq = { places_fed };
 

@@ -2,8 +2,8 @@
 ghost use Rattle.std.specs.Prelude.{◌≡◌, ◌∷◌, ◌++◌, [], IfOk, chars};
 ghost use Rattle.usage_docs.specs.declared.schema_table.ElementKind.TheVariants.{EntryRef};
 ghost use Rattle.usage_docs.specs.declared.schema_table.ElementKind.TheVariants.{External};
-ghost use Rattle.usage_docs.specs.Forms.{trim_text, trim_front, trim_back};
-ghost use Rattle.usage_docs.specs.Texts.{text_of};
+ghost use Rattle.usage_docs.specs.ReferenceForms.{trim_text, trim_front, trim_back};
+ghost use Rattle.usage_docs.specs.ContentTexts.{content_text};
 ghost use Rattle.xml_names.specs.Characters.{is_space};
 ghost use Rattle.xml_tree.specs.Tree.{last};
 ghost use Rattle.xcap_uri.specs.Roots.{slash};
@@ -13,7 +13,7 @@ use std::alloc::Global;
 use usage_docs::{ElementKind, Key, value_of};
 use xcap_uri::Root;
 use xml_names::{Attr, NoMemory, Text, is_space};
-use xml_tokens::{chars_of_text, no_text, text_of};
+use xml_tokens::{chars_of_text, empty_text, text_of};
 use xml_tree::{Element, Node};
 
 /// The kind of element that a reference has to lead to.
@@ -45,7 +45,7 @@ impl ReferenceTarget {
 }
 
 // The target of a `ref` with this value.
-fn from_root(alloc: Global, root: &Root, value: &str) -> Result<Text, NoMemory>
+fn ref_target(alloc: Global, root: &Root, value: &str) -> Result<Text, NoMemory>
     ensures ok { IfOk result (λ made. made ≡ root.now ++ slash ∷ chars value.now) }
 {
     let mut target = Text::from(alloc, root.text())?;
@@ -55,13 +55,17 @@ fn from_root(alloc: Global, root: &Root, value: &str) -> Result<Text, NoMemory>
 }
 
 // The reference of an entry-ref.
-fn entry_ref(alloc: Global, root: &Root, attrs: &[Attr]) -> Result<Option<Reference>, NoMemory>
+fn entry_reference(
+    alloc: Global,
+    root: &Root,
+    attrs: &[Attr],
+) -> Result<Option<Reference>, NoMemory>
     ensures ok { IfOk result (λ made. made ≡ reference_of root.now EntryRef attrs.now (last [])) }
 {
     let Some(value) = value_of(Key::Ref, attrs) else {
         return Ok(None);
     };
-    let target = from_root(alloc, root, value)?;
+    let target = ref_target(alloc, root, value)?;
     Ok(Some(Reference {
         wanted: ReferenceTarget::AnEntry,
         target,
@@ -69,7 +73,11 @@ fn entry_ref(alloc: Global, root: &Root, attrs: &[Attr]) -> Result<Option<Refere
 }
 
 // The reference of an external list.
-fn external(alloc: Global, root: &Root, attrs: &[Attr]) -> Result<Option<Reference>, NoMemory>
+fn external_reference(
+    alloc: Global,
+    root: &Root,
+    attrs: &[Attr],
+) -> Result<Option<Reference>, NoMemory>
     ensures ok { IfOk result (λ made. made ≡ reference_of root.now External attrs.now (last [])) }
 {
     let Some(value) = value_of(Key::Anchor, attrs) else {
@@ -83,10 +91,10 @@ fn external(alloc: Global, root: &Root, attrs: &[Attr]) -> Result<Option<Referen
 }
 
 // The text of an element.
-fn text_inside(alloc: Global, element: &Element) -> Result<Text, NoMemory>
-    ensures ok { IfOk result (λ text. text ≡ text_of element.now.content) }
+fn element_text(alloc: Global, element: &Element) -> Result<Text, NoMemory>
+    ensures ok { IfOk result (λ text. text ≡ content_text element.now.content) }
 {
-    let mut inside = no_text(alloc);
+    let mut inside = empty_text(alloc);
     for node in element.nodes() {
         if let Node::Chars(text) = node {
             inside.push_str(text.as_str())?;
@@ -120,11 +128,11 @@ fn trim_back(mut letters: &[char]) -> &[char]
 }
 
 // The text of an element without leading and trailing white space.
-#[tactic(auto, unfolding(usage_docs::specs::Forms::trim_text))]
+#[tactic(auto, unfolding(usage_docs::specs::ReferenceForms::trim_text))]
 fn trim_text(alloc: Global, element: &Element) -> Result<Text, NoMemory>
-    ensures trims_ends { IfOk result (λ text. text ≡ trim_text (text_of element.now.content)) }
+    ensures trims_ends { IfOk result (λ text. text ≡ trim_text (content_text element.now.content)) }
 {
-    let inside = text_inside(alloc, element)?;
+    let inside = element_text(alloc, element)?;
     let letters = chars_of_text(alloc, inside.as_str())?;
     text_of(alloc, trim_back(trim_front(&letters)))
 }
@@ -143,8 +151,8 @@ pub(crate) fn reference_of(
         (λ made. made ≡ reference_of root.now kind element.now.attrs element.now.content) }
 {
     match kind {
-        ElementKind::EntryRef => entry_ref(alloc, root, element.attrs()),
-        ElementKind::External => external(alloc, root, element.attrs()),
+        ElementKind::EntryRef => entry_reference(alloc, root, element.attrs()),
+        ElementKind::External => external_reference(alloc, root, element.attrs()),
         ElementKind::ResourceList => {
             let target = trim_text(alloc, element)?;
             Ok(Some(Reference {

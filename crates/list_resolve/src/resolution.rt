@@ -2,14 +2,14 @@
 ghost use Rattle.std.specs.Prelude.{◌≡◌, ◌≤◌, option_and_then, option_map, IfOk, IfSome, Ok, Some};
 ghost use Rattle.xml_names.specs.declared.limits.TheConstants.{MAX_LEVELS};
 ghost use Rattle.xml_tree.specs.Tree.{height};
-ghost use Rattle.doc_names.specs.Equality.{same_home};
-ghost use Rattle.node_select.specs.Selection.{selected_in};
-ghost use Rattle.xcap_uri.specs.Targets.{is_element};
+ghost use Rattle.doc_names.specs.NameEquality.{same_home};
+ghost use Rattle.node_select.specs.Selection.{selected_element_path};
+ghost use Rattle.xcap_uri.specs.Targets.{is_element_end};
 ghost use Rattle.xcap_uri.specs.declared.target.Target.TheVariants.{Node};
-ghost use Rattle.list_resolve.specs.Resolution.{is_own, resolve_at, resolve_target};
-ghost use Rattle.list_resolve.specs.inner.SkippedElements.{reference_resolved_in};
+ghost use Rattle.list_resolve.specs.Resolution.{is_own_document, resolve_at, resolve_target};
+ghost use Rattle.list_resolve.specs.inner.SkippedElements.{resolve_in_context};
 ghost use Rattle.list_resolve.specs.inner.SkippedElements.{scoped_element_at};
-ghost use Rattle.list_resolve.specs.inner.Views.{context_in, resolved_in, scoped_element_in};
+ghost use Rattle.list_resolve.specs.inner.Views.{context_view, resolved_view, scoped_element_view};
 
 use crate::document_place::Place;
 use crate::reference::{Reference, ReferenceTarget};
@@ -52,8 +52,8 @@ fn is_same_home(a: &Home, b: &Home) -> bool
 }
 
 // Whether the id names a document of lists of this home.
-fn is_own(home: &Home, doc: &DocId) -> bool
-    ensures exact { result ≡ is_own home.now doc.now }
+fn is_own_document(home: &Home, doc: &DocId) -> bool
+    ensures exact { result ≡ is_own_document home.now doc.now }
 {
     match doc.auid {
         Auid::ResourceLists => is_same_home(&doc.home, home),
@@ -63,8 +63,8 @@ fn is_own(home: &Home, doc: &DocId) -> bool
 }
 
 // Whether a selector selects an element.
-fn is_element(end: &End) -> bool
-    ensures exact { result ≡ is_element end.now }
+fn is_element_end(end: &End) -> bool
+    ensures exact { result ≡ is_element_end end.now }
 {
     match end {
         End::Element => true,
@@ -80,7 +80,7 @@ fn resolve_at<'a>(
     root: &'a Element,
     path: Path,
 ) -> Option<ResolvedReference<'a>>
-    ensures exact { option_map resolved_in result ≡ resolve_at wanted name root.now path }
+    ensures exact { option_map resolved_view result ≡ resolve_at wanted name root.now path }
     ensures is_no_higher { IfSome result
         (λ l. height l.scoped_element.element.now ≤ height root.now) }
 {
@@ -95,7 +95,7 @@ fn resolve_at<'a>(
 }
 
 // The element that a selector selects in a document with this name, if it is of the expected kind.
-fn resolve_by<'a>(
+fn resolve_selector<'a>(
     alloc: Global,
     wanted: ReferenceTarget,
     name: Text,
@@ -103,9 +103,9 @@ fn resolve_by<'a>(
     root: &'a Element,
 ) -> Option<ResolvedReference<'a>>
     requires { height root.now ≤ MAX_LEVELS }
-    ensures exact { option_map resolved_in result
+    ensures exact { option_map resolved_view result
         ≡ option_and_then (resolve_at wanted name root.now)
-        (selected_in selector.now.steps root.now) }
+        (selected_element_path selector.now.steps root.now) }
     ensures within_levels { IfSome result (λ l. height l.scoped_element.element.now ≤ MAX_LEVELS) }
 {
     let path = select(alloc, root, selector)?;
@@ -113,21 +113,21 @@ fn resolve_by<'a>(
 }
 
 // Where a target that is a node leads.
-fn resolve_to<'a>(
+fn resolve_node<'a>(
     ground: &ResolutionContext<'a>,
     wanted: ReferenceTarget,
     doc: DocId,
     selector: &Selector,
 ) -> Option<ResolvedReference<'a>>
-    ensures exact { option_map resolved_in result
-        ≡ resolve_target (context_in ground.now) wanted (Ok (Node doc selector.now)) }
+    ensures exact { option_map resolved_view result
+        ≡ resolve_target (context_view ground.now) wanted (Ok (Node doc selector.now)) }
     ensures within_levels { IfSome result (λ l. height l.scoped_element.element.now ≤ MAX_LEVELS) }
 {
-    if !(is_own(ground.home, &doc) && is_element(&selector.end)) {
+    if !(is_own_document(ground.home, &doc) && is_element_end(&selector.end)) {
         return None;
     }
     let (root, _) = ground.store.get(&doc)?;
-    resolve_by(ground.alloc, wanted, doc.name, selector, root)
+    resolve_selector(ground.alloc, wanted, doc.name, selector, root)
 }
 
 // Where a target leads: if anywhere, it is a node.
@@ -136,14 +136,14 @@ fn resolve_target<'a>(
     wanted: ReferenceTarget,
     target: Target,
 ) -> Option<ResolvedReference<'a>>
-    ensures exact { option_map resolved_in result
-        ≡ resolve_target (context_in ground.now) wanted (Ok target) }
+    ensures exact { option_map resolved_view result
+        ≡ resolve_target (context_view ground.now) wanted (Ok target) }
     ensures within_levels { IfSome result (λ l. height l.scoped_element.element.now ≤ MAX_LEVELS) }
 {
     let Target::Node(doc, selector) = target else {
         return None;
     };
-    resolve_to(ground, wanted, doc, &selector)
+    resolve_node(ground, wanted, doc, &selector)
 }
 
 /// Resolves a reference.
@@ -155,14 +155,14 @@ pub(crate) fn resolve_reference<'a>(
     reference: &Reference,
 ) -> Result<Option<ResolvedReference<'a>>, NoMemory>
     ensures exact { IfOk result
-        (λ found. option_map resolved_in found
-        ≡ reference_resolved_in (context_in ground.now) reference.now) }
+        (λ found. option_map resolved_view found
+        ≡ resolve_in_context (context_view ground.now) reference.now) }
     ensures within_levels { IfOk result
         (λ found. IfSome found (λ l. height l.scoped_element.element.now ≤ MAX_LEVELS)) }
     ensures lead_is_there { IfOk result
         (λ found. IfSome found
-        (λ l. scoped_element_at (context_in ground.now) l.place
-        ≡ Some (scoped_element_in l.scoped_element))) }
+        (λ l. scoped_element_at (context_view ground.now) l.place
+        ≡ Some (scoped_element_view l.scoped_element))) }
 {
     let target = reference.target.as_str().as_bytes();
     match read_target(ground.alloc, ground.root, target) {

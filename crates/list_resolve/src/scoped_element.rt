@@ -3,8 +3,8 @@ ghost use Rattle.std.specs.Prelude.{◌≡◌, ◌+◌, ◌≤◌, ◌<◌, leng
 ghost use Rattle.std.specs.Prelude.{slice_get, IfSome};
 ghost use Rattle.xml_tree.specs.declared.scope.TheConstants.{SCOPE_LIMIT};
 ghost use Rattle.xml_tree.specs.Tree.{height, child_elements_of};
-ghost use Rattle.list_resolve.specs.ScopedElements.{child_spot, list_element, root_element};
-ghost use Rattle.list_resolve.specs.inner.Views.{scoped_element_in};
+ghost use Rattle.list_resolve.specs.ScopedElements.{scoped_child, list_element, root_element};
+ghost use Rattle.list_resolve.specs.inner.Views.{scoped_element_view};
 
 use usage_docs::{ElementKind, kind_of};
 use xml_tree::{Element, LinkedScope, Path, Scope};
@@ -20,7 +20,7 @@ pub(crate) struct ScopedElement<'a> {
 impl<'a> ScopedElement<'a> {
     /// The root of a document whose root is of this kind. Does not allocate.
     pub(crate) fn root(kind: ElementKind, root: &'a Element) -> ScopedElement<'a>
-        ensures spot_meant { scoped_element_in result ≡ root_element kind root.now }
+        ensures spot_meant { scoped_element_view result ≡ root_element kind root.now }
         ensures one_scope_more { length result.scope ≡ 1 }
     {
         ScopedElement {
@@ -31,10 +31,10 @@ impl<'a> ScopedElement<'a> {
     }
 
     /// A child, if it has an element kind. Does not allocate.
-    pub(crate) fn below(&self, child_element: &'a Element) -> Option<ScopedElement<'a>>
+    pub(crate) fn enter_child(&self, child_element: &'a Element) -> Option<ScopedElement<'a>>
         requires { length self.now.scope < SCOPE_LIMIT }
-        ensures spot_meant { option_map scoped_element_in result
-            ≡ child_spot (scoped_element_in self.now) child_element.now }
+        ensures spot_meant { option_map scoped_element_view result
+            ≡ scoped_child (scoped_element_view self.now) child_element.now }
         ensures one_scope_more { IfSome result (λ s. length s.scope ≡ length self.now.scope + 1) }
         ensures spot_of_child { IfSome result (λ s. s.element.now ≡ child_element.now) }
     {
@@ -54,22 +54,22 @@ impl<'a> ScopedElement<'a> {
     /// The child of this number, if there is one and it has an element kind. Does not allocate.
     pub(crate) fn child_element(&self, number: usize) -> Option<ScopedElement<'a>>
         requires { length self.now.scope < SCOPE_LIMIT }
-        ensures spot_meant { option_map scoped_element_in result
-            ≡ option_and_then (child_spot (scoped_element_in self.now))
+        ensures spot_meant { option_map scoped_element_view result
+            ≡ option_and_then (scoped_child (scoped_element_view self.now))
             (slice_get (child_elements_of self.now.element.now) number) }
         ensures one_scope_more { IfSome result (λ s. length s.scope ≡ length self.now.scope + 1) }
         ensures is_no_higher { IfSome result
             (λ s. height s.element.now ≤ height self.now.element.now) }
     {
         let child_element = self.element.child_element(number)?;
-        self.below(child_element)
+        self.enter_child(child_element)
     }
 }
 
 /// The element at a path of a document of lists, if all on the path have element kinds. Does not
 /// allocate.
 pub(crate) fn list_element<'a>(root: &'a Element, path: &Path) -> Option<ScopedElement<'a>>
-    ensures spot_meant { option_map scoped_element_in result ≡ list_element root.now path.now }
+    ensures spot_meant { option_map scoped_element_view result ≡ list_element root.now path.now }
     ensures is_no_higher { IfSome result (λ s. height s.element.now ≤ height root.now) }
 {
     let mut here = ScopedElement::root(ElementKind::ResourceLists, root);

@@ -1,8 +1,8 @@
 //! Collects what a walk meets.
 ghost use Rattle.std.specs.Prelude.{◌≡◌, ◌≤◌, ◌∷◌, [], chars, IfOk, OnOk, IfErr};
-ghost use Rattle.list_resolve.specs.Places.{is_on};
+ghost use Rattle.list_resolve.specs.ElementPlaces.{contains_place};
 ghost use Rattle.list_resolve.specs.Walks.{address, mark};
-ghost use Rattle.list_resolve.specs.inner.WalkStates.{Fails, with_collected_item, empty_walk};
+ghost use Rattle.list_resolve.specs.inner.WalkStates.{IsWalkFault, with_collected_item, empty_walk};
 ghost use Rattle.list_resolve.specs.inner.WalkStates.{with_visited_place};
 
 use crate::document_place::Place;
@@ -28,9 +28,9 @@ pub(crate) struct UriCollector {
 impl Model for UriCollector {
     ghost use Rattle.std.specs.Prelude.{◌≤◌};
     ghost use Rattle.list_resolve.specs.declared.uri_collector.TheConstants.{MARK_LIMIT};
-    ghost use Rattle.list_resolve.specs.inner.WalkStates.{Gathered, gathered_code};
+    ghost use Rattle.list_resolve.specs.inner.WalkStates.{CollectorState, gathered_code};
 
-    ghost Value = { Gathered };
+    ghost Value = { CollectorState };
 
     ghost coded = { gathered_code };
 
@@ -60,7 +60,8 @@ impl UriCollector {
     /// # Errors
     /// `NoMemory` when out of memory.
     pub(crate) fn add_uri(&mut self, uri: &str) -> Result<(), NoMemory>
-        ensures ok { OnOk result (self.new ≡ with_collected_item self.old (address (chars uri.now))) }
+        ensures ok { OnOk result
+            (self.new ≡ with_collected_item self.old (address (chars uri.now))) }
     {
         let uri = Text::from(self.alloc, uri)?;
         self.uris.insert(uri)?;
@@ -73,7 +74,7 @@ impl UriCollector {
     /// `TooWide` exactly where there are too many then.
     pub(crate) fn add_mark(&mut self) -> Result<(), FlatError>
         ensures ok { OnOk result (self.new ≡ with_collected_item self.old mark) }
-        ensures err_too_many { IfErr result (Fails (mark ∷ []) self.old.tally) }
+        ensures err_too_many { IfErr result (IsWalkFault (mark ∷ []) self.old.tally) }
     {
         if self.marks == MARK_LIMIT {
             return Err(FlatError::Fault(FlatFault::TooWide));
@@ -93,7 +94,7 @@ impl UriCollector {
     ///
     /// # Errors
     /// `NoMemory` when out of memory.
-    pub(crate) fn pass(&mut self, place: Place) -> Result<(), NoMemory>
+    pub(crate) fn record_passed(&mut self, place: Place) -> Result<(), NoMemory>
         ensures ok { OnOk result (self.new ≡ with_visited_place self.old place) }
     {
         self.passed.insert(place)?;
@@ -102,7 +103,7 @@ impl UriCollector {
 
     /// Whether the element at a place need not be walked again. Does not allocate.
     pub(crate) fn has_passed(&self, place: &Place) -> bool
-        ensures exact { result ≡ is_on self.now.passed place.now }
+        ensures exact { result ≡ contains_place self.now.passed place.now }
     {
         self.passed.contains(place)
     }

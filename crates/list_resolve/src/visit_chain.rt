@@ -1,6 +1,6 @@
 //! The chain of the elements that a walk is in.
 ghost use Rattle.std.specs.Prelude.{◌≡◌, [], ◌∷◌};
-ghost use Rattle.list_resolve.specs.Places.{is_on};
+ghost use Rattle.list_resolve.specs.ElementPlaces.{contains_place};
 
 use crate::document_place::Place;
 use std::marker::Model;
@@ -32,9 +32,9 @@ impl<'a> Model for VisitChain<'a> {
 
     ghost coded = { coded_list place_code };
 
-    ghost use Rattle.list_resolve.specs.inner.Chains.{places_at};
+    ghost use Rattle.list_resolve.specs.inner.VisitChains.{chain_places};
 
-    ghost view = { λ c. places_at c.link };
+    ghost view = { λ c. chain_places c.link };
 
     ghost size = { length };
 
@@ -60,7 +60,7 @@ impl<'a> VisitChain<'a> {
 
     /// Whether a place is on the chain. Does not allocate.
     pub(crate) fn has(&self, place: &Place) -> bool
-        ensures exact { result ≡ is_on self.now place.now }
+        ensures exact { result ≡ contains_place self.now place.now }
     {
         match &self.link {
             Link::End => false,

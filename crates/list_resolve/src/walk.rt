@@ -6,16 +6,17 @@ ghost use Rattle.xml_names.specs.declared.limits.TheConstants.{MAX_LEVELS};
 ghost use Rattle.xml_tree.specs.Tree.{height};
 ghost use Rattle.usage_docs.specs.declared.schema_table.Key.TheVariants.{Uri};
 ghost use Rattle.usage_docs.specs.declared.schema_table.ElementKind.TheVariants.{EntryList};
-ghost use Rattle.usage_docs.specs.Keys.{value_of};
+ghost use Rattle.usage_docs.specs.KeyAttributes.{value_of};
 ghost use Rattle.list_resolve.specs.References.{reference_of};
-ghost use Rattle.list_resolve.specs.Places.{is_on};
-ghost use Rattle.list_resolve.specs.Walks.{address, walk_after, kind_items, mark};
-ghost use Rattle.list_resolve.specs.Walks.{scoped_element_items, walked};
-ghost use Rattle.list_resolve.specs.inner.Kids.{child_items};
-ghost use Rattle.list_resolve.specs.inner.SkippedElements.{Gathers, IsPassed, IsSound};
-ghost use Rattle.list_resolve.specs.inner.SkippedElements.{reference_resolved_in};
+ghost use Rattle.list_resolve.specs.ElementPlaces.{contains_place};
+ghost use Rattle.list_resolve.specs.Walks.{address, walk_after_mark, kind_items, mark};
+ghost use Rattle.list_resolve.specs.Walks.{scoped_element_items, content_items};
+ghost use Rattle.list_resolve.specs.inner.ChildItems.{child_items};
+ghost use Rattle.list_resolve.specs.inner.SkippedElements.{CollectsItems, IsFullyCollected};
+ghost use Rattle.list_resolve.specs.inner.SkippedElements.{HasSoundPlaces};
+ghost use Rattle.list_resolve.specs.inner.SkippedElements.{resolve_in_context};
 ghost use Rattle.list_resolve.specs.inner.SkippedElements.{scoped_element_at};
-ghost use Rattle.list_resolve.specs.inner.Views.{context_in, scoped_element_in};
+ghost use Rattle.list_resolve.specs.inner.Views.{context_view, scoped_element_view};
 
 use crate::document_place::Place;
 use crate::fault::FlatError;
@@ -33,8 +34,8 @@ fn add_entry(
     attrs: &[Attr],
     collector: &mut UriCollector,
 ) -> Result<(), FlatError>
-    requires is_sound { IsSound (context_in ground.now) collector.old }
-    ensures gathers_address { Gathers (context_in ground.now)
+    requires is_sound { HasSoundPlaces (context_view ground.now) collector.old }
+    ensures gathers_address { CollectsItems (context_view ground.now)
         (option_map_or (λ uri. address uri ∷ []) (value_of Uri attrs.now) [])
         collector.old collector.new result }
 {
@@ -62,9 +63,10 @@ pub(crate) fn walk_inside(
     element: &Element,
     collector: &mut UriCollector,
 ) -> Result<(), FlatError>
-    requires is_sound { IsSound (context_in ground.now) collector.old }
-    ensures gathers_walk { Gathers (context_in ground.now)
-        (walked (walk_after (reference_resolved_in (context_in ground.now)) ground.now.root.now left
+    requires is_sound { HasSoundPlaces (context_view ground.now) collector.old }
+    ensures gathers_walk { CollectsItems (context_view ground.now)
+        (content_items
+        (walk_after_mark (resolve_in_context (context_view ground.now)) ground.now.root.now left
         chain.now) ground.now.root.now row scope.now element.now.content)
         collector.old collector.new result }
 {
@@ -87,10 +89,10 @@ fn walk_child_element(
     child_element: &Element,
     collector: &mut UriCollector,
 ) -> Result<(), FlatError>
-    requires is_sound { IsSound (context_in ground.now) collector.old }
-    ensures gathers_child { Gathers (context_in ground.now)
-        (child_items (walk_after
-        (reference_resolved_in (context_in ground.now)) ground.now.root.now left chain.now)
+    requires is_sound { HasSoundPlaces (context_view ground.now) collector.old }
+    ensures gathers_child { CollectsItems (context_view ground.now)
+        (child_items (walk_after_mark
+        (resolve_in_context (context_view ground.now)) ground.now.root.now left chain.now)
         ground.now.root.now row scope.now child_element.now)
         collector.old collector.new result }
 {
@@ -113,12 +115,13 @@ fn walk_element(
     element: &Element,
     collector: &mut UriCollector,
 ) -> Result<(), FlatError>
-    requires is_sound { IsSound (context_in ground.now) collector.old }
-    ensures gathers_element { Gathers (context_in ground.now)
-        (kind_items (walk_after
-        (reference_resolved_in (context_in ground.now)) ground.now.root.now left chain.now)
+    requires is_sound { HasSoundPlaces (context_view ground.now) collector.old }
+    ensures gathers_element { CollectsItems (context_view ground.now)
+        (kind_items (walk_after_mark
+        (resolve_in_context (context_view ground.now)) ground.now.root.now left chain.now)
         ground.now.root.now kind element.now
-        (walked (walk_after (reference_resolved_in (context_in ground.now)) ground.now.root.now left
+        (content_items
+        (walk_after_mark (resolve_in_context (context_view ground.now)) ground.now.root.now left
         chain.now) ground.now.root.now EntryList scope.now element.now.content))
         collector.old collector.new result }
 {
@@ -155,10 +158,10 @@ fn walk_reference(
     element: &Element,
     collector: &mut UriCollector,
 ) -> Result<(), FlatError>
-    requires is_sound { IsSound (context_in ground.now) collector.old }
-    ensures gathers_reference { Gathers (context_in ground.now)
-        (option_map_or (λ r. mark ∷ walk_after
-        (reference_resolved_in (context_in ground.now)) ground.now.root.now left chain.now r)
+    requires is_sound { HasSoundPlaces (context_view ground.now) collector.old }
+    ensures gathers_reference { CollectsItems (context_view ground.now)
+        (option_map_or (λ r. mark ∷ walk_after_mark
+        (resolve_in_context (context_view ground.now)) ground.now.root.now left chain.now r)
         (reference_of ground.now.root.now kind element.now.attrs element.now.content) [])
         collector.old collector.new result }
 {
@@ -166,21 +169,21 @@ fn walk_reference(
         return Ok(());
     };
     collector.add_mark()?;
-    walk_after(ground, left, chain, &reference, collector)
+    walk_after_mark(ground, left, chain, &reference, collector)
 }
 
 // Collects what a reference leads to, after its mark.
 #[cycle(walk)]
-fn walk_after(
+fn walk_after_mark(
     ground: &ResolutionContext<'_>,
     left: usize,
     chain: &VisitChain<'_>,
     reference: &Reference,
     collector: &mut UriCollector,
 ) -> Result<(), FlatError>
-    requires is_sound { IsSound (context_in ground.now) collector.old }
-    ensures gathers_reference { Gathers (context_in ground.now)
-        (walk_after (reference_resolved_in (context_in ground.now)) ground.now.root.now left
+    requires is_sound { HasSoundPlaces (context_view ground.now) collector.old }
+    ensures gathers_reference { CollectsItems (context_view ground.now)
+        (walk_after_mark (resolve_in_context (context_view ground.now)) ground.now.root.now left
         chain.now reference.now)
         collector.old collector.new result }
 {
@@ -203,27 +206,27 @@ fn walk_resolved_reference(
     collector: &mut UriCollector,
 ) -> Result<(), FlatError>
     requires height_bounded { height lead.scoped_element.element.now ≤ MAX_LEVELS }
-    requires place_exists { scoped_element_at (context_in ground.now) lead.place
-        ≡ Some (scoped_element_in lead.scoped_element) }
-    requires is_sound { IsSound (context_in ground.now) collector.old }
-    ensures gathers_lead { Gathers (context_in ground.now)
-        (if is_on chain.now lead.entry.place then [] else
+    requires place_exists { scoped_element_at (context_view ground.now) lead.place
+        ≡ Some (scoped_element_view lead.scoped_element) }
+    requires is_sound { HasSoundPlaces (context_view ground.now) collector.old }
+    ensures gathers_lead { CollectsItems (context_view ground.now)
+        (if contains_place chain.now lead.entry.place then [] else
         scoped_element_items
-        (walk_after (reference_resolved_in (context_in ground.now)) ground.now.root.now left
+        (walk_after_mark (resolve_in_context (context_view ground.now)) ground.now.root.now left
         (lead.entry.place ∷ chain.now)) ground.now.root.now
-        (scoped_element_in lead.entry.scoped_element))
+        (scoped_element_view lead.entry.scoped_element))
         collector.old collector.new result }
 {
     if chain.has(&lead.place) {
         return Ok(());
     }
-    walk_once(ground, left, chain, lead, collector)
+    walk_unless_passed(ground, left, chain, lead, collector)
 }
 
 // Collects what an element that isn't on the chain gives, unless it has no references and was
 // collected before.
 #[cycle(walk)]
-fn walk_once(
+fn walk_unless_passed(
     ground: &ResolutionContext<'_>,
     left: usize,
     chain: &VisitChain<'_>,
@@ -231,28 +234,28 @@ fn walk_once(
     collector: &mut UriCollector,
 ) -> Result<(), FlatError>
     requires height_bounded { height lead.scoped_element.element.now ≤ MAX_LEVELS }
-    requires place_exists { scoped_element_at (context_in ground.now) lead.place
-        ≡ Some (scoped_element_in lead.scoped_element) }
-    requires is_sound { IsSound (context_in ground.now) collector.old }
-    ensures gathers_element { Gathers (context_in ground.now)
+    requires place_exists { scoped_element_at (context_view ground.now) lead.place
+        ≡ Some (scoped_element_view lead.scoped_element) }
+    requires is_sound { HasSoundPlaces (context_view ground.now) collector.old }
+    ensures gathers_element { CollectsItems (context_view ground.now)
         (scoped_element_items
-        (walk_after (reference_resolved_in (context_in ground.now)) ground.now.root.now left
+        (walk_after_mark (resolve_in_context (context_view ground.now)) ground.now.root.now left
         (lead.entry.place ∷ chain.now)) ground.now.root.now
-        (scoped_element_in lead.entry.scoped_element))
+        (scoped_element_view lead.entry.scoped_element))
         collector.old collector.new result }
 {
     if collector.has_passed(&lead.place) {
         return Ok(());
     }
     let marks = collector.marks();
-    walk_longer(ground, left, chain, &lead, collector)?;
-    keep_passed(ground, marks, lead.place, collector)?;
+    walk_with_place(ground, left, chain, &lead, collector)?;
+    record_if_unmarked(ground, marks, lead.place, collector)?;
     Ok(())
 }
 
 // Collects what an element gives, with its place on the chain.
 #[cycle(walk)]
-fn walk_longer(
+fn walk_with_place(
     ground: &ResolutionContext<'_>,
     left: usize,
     chain: &VisitChain<'_>,
@@ -260,12 +263,12 @@ fn walk_longer(
     collector: &mut UriCollector,
 ) -> Result<(), FlatError>
     requires height_bounded { height lead.now.scoped_element.element.now ≤ MAX_LEVELS }
-    requires is_sound { IsSound (context_in ground.now) collector.old }
-    ensures gathers_element { Gathers (context_in ground.now)
+    requires is_sound { HasSoundPlaces (context_view ground.now) collector.old }
+    ensures gathers_element { CollectsItems (context_view ground.now)
         (scoped_element_items
-        (walk_after (reference_resolved_in (context_in ground.now)) ground.now.root.now left
+        (walk_after_mark (resolve_in_context (context_view ground.now)) ground.now.root.now left
         (lead.now.place ∷ chain.now)) ground.now.root.now
-        (scoped_element_in lead.now.scoped_element))
+        (scoped_element_view lead.now.scoped_element))
         collector.old collector.new result }
 {
     let longer = (&*chain).with(&lead.place);
@@ -282,21 +285,21 @@ fn walk_longer(
 }
 
 // Records the place of a collected element, if no reference was counted since.
-fn keep_passed(
+fn record_if_unmarked(
     ground: &ResolutionContext<'_>,
     marks: usize,
     place: Place,
     collector: &mut UriCollector,
 ) -> Result<(), NoMemory>
     requires passed { collector.old.tally.marks ≡ marks
-        → IsPassed (context_in ground.now) collector.old.tally.uris place }
-    requires is_sound { IsSound (context_in ground.now) collector.old }
+        → IsFullyCollected (context_view ground.now) collector.old.tally.uris place }
+    requires is_sound { HasSoundPlaces (context_view ground.now) collector.old }
     ensures same_tally { OnOk result (collector.new.tally ≡ collector.old.tally) }
-    ensures stays_sound { OnOk result (IsSound (context_in ground.now) collector.new) }
+    ensures stays_sound { OnOk result (HasSoundPlaces (context_view ground.now) collector.new) }
 {
     let _ground = ground;
     if collector.marks() == marks {
-        collector.pass(place)?;
+        collector.record_passed(place)?;
     }
     Ok(())
 }

@@ -1,3 +1,3 @@
 pub mod Crashes
-pub mod Disks
-pub mod Folders
+pub mod DiskHistories
+pub mod FolderStates

@@ -2,11 +2,13 @@
 // it records, that a call does what its answer says, and that a crash leaves what the model allows,
 // is read here and proved nowhere.
 ghost use Rattle.std.specs.Prelude.{◌≡◌, true, false, None, OnOk, OnErr, IsSome};
-ghost use Rattle.log_disk.specs.Folders.{opened_on, with_step, with_write, with_tear};
-ghost use Rattle.log_disk.specs.Folders.{with_sync, with_loss, with_cut, with_fault, with_draft};
-ghost use Rattle.log_disk.specs.Folders.{with_more_draft, with_no_draft, with_ready_draft};
-ghost use Rattle.log_disk.specs.Folders.{with_rename, with_lost_rename, with_folder_sync};
-ghost use Rattle.log_disk.specs.Disks.{folder_of};
+ghost use Rattle.log_disk.specs.FolderStates.{opened_folder, with_step, with_write};
+ghost use Rattle.log_disk.specs.FolderStates.{with_torn_write};
+ghost use Rattle.log_disk.specs.FolderStates.{with_sync, with_failed_sync, with_cut, with_fault};
+ghost use Rattle.log_disk.specs.FolderStates.{with_draft};
+ghost use Rattle.log_disk.specs.FolderStates.{with_draft_bytes, without_draft, with_ready_draft};
+ghost use Rattle.log_disk.specs.FolderStates.{with_rename, with_failed_rename, with_folder_sync};
+ghost use Rattle.log_disk.specs.DiskHistories.{disk_history};
 
 use crate::folder_history::FolderHistory;
 use crate::{FolderCalls, FolderFault};
@@ -21,7 +23,7 @@ pub struct Disk<C: FolderCalls + Drop> {
 impl<C: FolderCalls + Drop> Disk<C> {
     /// A folder whose file has the bytes. It was synced, and so was the folder.
     pub fn new(calls: C, bytes: &[u8]) -> Disk<C>
-        ensures exact { folder_of result ≡ opened_on bytes.now }
+        ensures exact { disk_history result ≡ opened_folder bytes.now }
     {
         let mut history = FolderHistory::new();
         history.record_opening(bytes);
@@ -30,13 +32,14 @@ impl<C: FolderCalls + Drop> Disk<C> {
 
     /// Writes the bytes after all that was written.
     pub fn write(&mut self, bytes: &[u8]) -> Result<(), FolderFault>
-        requires not_torn { (folder_of self.old).now.is_torn ≡ false }
-        requires not_lost { (folder_of self.old).now.is_lost ≡ false }
-        requires settled { (folder_of self.old).now.renamed ≡ None }
+        requires not_torn { (disk_history self.old).now.is_torn ≡ false }
+        requires not_lost { (disk_history self.old).now.is_lost ≡ false }
+        requires settled { (disk_history self.old).now.renamed ≡ None }
         ensures ok { OnOk result
-            (folder_of self.new ≡ with_step (folder_of self.old) (with_write bytes.now)) }
+            (disk_history self.new ≡ with_step (disk_history self.old) (with_write bytes.now)) }
         ensures err { OnErr result
-            (folder_of self.new ≡ with_step (folder_of self.old) (with_tear bytes.now)) }
+            (disk_history self.new
+            ≡ with_step (disk_history self.old) (with_torn_write bytes.now)) }
     {
         match self.calls.write(bytes) {
             Ok(()) => {
@@ -44,7 +47,7 @@ impl<C: FolderCalls + Drop> Disk<C> {
                 Ok(())
             }
             Err(FolderFault) => {
-                self.history.record_tear(bytes);
+                self.history.record_torn_write(bytes);
                 Err(FolderFault)
             }
         }
@@ -52,11 +55,13 @@ impl<C: FolderCalls + Drop> Disk<C> {
 
     /// Waits until what was written is on the disk.
     pub fn sync(&mut self) -> Result<(), FolderFault>
-        requires not_torn { (folder_of self.old).now.is_torn ≡ false }
-        requires not_lost { (folder_of self.old).now.is_lost ≡ false }
-        requires settled { (folder_of self.old).now.renamed ≡ None }
-        ensures ok { OnOk result (folder_of self.new ≡ with_step (folder_of self.old) with_sync) }
-        ensures err { OnErr result (folder_of self.new ≡ with_step (folder_of self.old) with_loss) }
+        requires not_torn { (disk_history self.old).now.is_torn ≡ false }
+        requires not_lost { (disk_history self.old).now.is_lost ≡ false }
+        requires settled { (disk_history self.old).now.renamed ≡ None }
+        ensures ok { OnOk result
+            (disk_history self.new ≡ with_step (disk_history self.old) with_sync) }
+        ensures err { OnErr result
+            (disk_history self.new ≡ with_step (disk_history self.old) with_failed_sync) }
     {
         match self.calls.sync() {
             Ok(()) => {
@@ -64,7 +69,7 @@ impl<C: FolderCalls + Drop> Disk<C> {
                 Ok(())
             }
             Err(FolderFault) => {
-                self.history.record_loss();
+                self.history.record_failed_sync();
                 Err(FolderFault)
             }
         }
@@ -72,11 +77,12 @@ impl<C: FolderCalls + Drop> Disk<C> {
 
     /// Truncates the file to its synced bytes.
     pub fn cut(&mut self) -> Result<(), FolderFault>
-        requires not_lost { (folder_of self.old).now.is_lost ≡ false }
-        requires settled { (folder_of self.old).now.renamed ≡ None }
-        ensures ok { OnOk result (folder_of self.new ≡ with_step (folder_of self.old) with_cut) }
+        requires not_lost { (disk_history self.old).now.is_lost ≡ false }
+        requires settled { (disk_history self.old).now.renamed ≡ None }
+        ensures ok { OnOk result
+            (disk_history self.new ≡ with_step (disk_history self.old) with_cut) }
         ensures err { OnErr result
-            (folder_of self.new ≡ with_step (folder_of self.old) with_fault) }
+            (disk_history self.new ≡ with_step (disk_history self.old) with_fault) }
     {
         match self.calls.cut() {
             Ok(()) => {
@@ -92,11 +98,12 @@ impl<C: FolderCalls + Drop> Disk<C> {
 
     /// Begins an empty draft in place of any other, and returns random bytes to mark it with.
     pub fn begin_draft(&mut self) -> Result<[u8; 8], FolderFault>
-        requires not_lost { (folder_of self.old).now.is_lost ≡ false }
-        requires settled { (folder_of self.old).now.renamed ≡ None }
-        ensures ok { OnOk result (folder_of self.new ≡ with_step (folder_of self.old) with_draft) }
+        requires not_lost { (disk_history self.old).now.is_lost ≡ false }
+        requires settled { (disk_history self.old).now.renamed ≡ None }
+        ensures ok { OnOk result
+            (disk_history self.new ≡ with_step (disk_history self.old) with_draft) }
         ensures err { OnErr result
-            (folder_of self.new ≡ with_step (folder_of self.old) with_no_draft) }
+            (disk_history self.new ≡ with_step (disk_history self.old) without_draft) }
     {
         match self.calls.begin_draft() {
             Ok(mark) => {
@@ -104,7 +111,7 @@ impl<C: FolderCalls + Drop> Disk<C> {
                 Ok(mark)
             }
             Err(FolderFault) => {
-                self.history.record_no_draft();
+                self.history.record_draft_fault();
                 Err(FolderFault)
             }
         }
@@ -112,21 +119,22 @@ impl<C: FolderCalls + Drop> Disk<C> {
 
     /// Writes the bytes after those of the draft.
     pub fn write_draft(&mut self, bytes: &[u8]) -> Result<(), FolderFault>
-        requires not_lost { (folder_of self.old).now.is_lost ≡ false }
-        requires settled { (folder_of self.old).now.renamed ≡ None }
-        requires begun { IsSome (folder_of self.old).now.draft }
+        requires not_lost { (disk_history self.old).now.is_lost ≡ false }
+        requires settled { (disk_history self.old).now.renamed ≡ None }
+        requires begun { IsSome (disk_history self.old).now.draft }
         ensures ok { OnOk result
-            (folder_of self.new ≡ with_step (folder_of self.old) (with_more_draft bytes.now)) }
+            (disk_history self.new
+            ≡ with_step (disk_history self.old) (with_draft_bytes bytes.now)) }
         ensures err { OnErr result
-            (folder_of self.new ≡ with_step (folder_of self.old) with_no_draft) }
+            (disk_history self.new ≡ with_step (disk_history self.old) without_draft) }
     {
         match self.calls.write_draft(bytes) {
             Ok(()) => {
-                self.history.record_more_draft(bytes);
+                self.history.record_draft_bytes(bytes);
                 Ok(())
             }
             Err(FolderFault) => {
-                self.history.record_no_draft();
+                self.history.record_draft_fault();
                 Err(FolderFault)
             }
         }
@@ -134,13 +142,13 @@ impl<C: FolderCalls + Drop> Disk<C> {
 
     /// Waits until the draft is on the disk.
     pub fn sync_draft(&mut self) -> Result<(), FolderFault>
-        requires not_lost { (folder_of self.old).now.is_lost ≡ false }
-        requires settled { (folder_of self.old).now.renamed ≡ None }
-        requires begun { IsSome (folder_of self.old).now.draft }
+        requires not_lost { (disk_history self.old).now.is_lost ≡ false }
+        requires settled { (disk_history self.old).now.renamed ≡ None }
+        requires begun { IsSome (disk_history self.old).now.draft }
         ensures ok { OnOk result
-            (folder_of self.new ≡ with_step (folder_of self.old) with_ready_draft) }
+            (disk_history self.new ≡ with_step (disk_history self.old) with_ready_draft) }
         ensures err { OnErr result
-            (folder_of self.new ≡ with_step (folder_of self.old) with_no_draft) }
+            (disk_history self.new ≡ with_step (disk_history self.old) without_draft) }
     {
         match self.calls.sync_draft() {
             Ok(()) => {
@@ -148,7 +156,7 @@ impl<C: FolderCalls + Drop> Disk<C> {
                 Ok(())
             }
             Err(FolderFault) => {
-                self.history.record_no_draft();
+                self.history.record_draft_fault();
                 Err(FolderFault)
             }
         }
@@ -156,13 +164,14 @@ impl<C: FolderCalls + Drop> Disk<C> {
 
     /// Gives the draft the file's name.
     pub fn rename_draft(&mut self) -> Result<(), FolderFault>
-        requires not_lost { (folder_of self.old).now.is_lost ≡ false }
-        requires settled { (folder_of self.old).now.renamed ≡ None }
-        requires begun { IsSome (folder_of self.old).now.draft }
-        requires ready { (folder_of self.old).now.is_ready ≡ true }
-        ensures ok { OnOk result (folder_of self.new ≡ with_step (folder_of self.old) with_rename) }
+        requires not_lost { (disk_history self.old).now.is_lost ≡ false }
+        requires settled { (disk_history self.old).now.renamed ≡ None }
+        requires begun { IsSome (disk_history self.old).now.draft }
+        requires ready { (disk_history self.old).now.is_ready ≡ true }
+        ensures ok { OnOk result
+            (disk_history self.new ≡ with_step (disk_history self.old) with_rename) }
         ensures err { OnErr result
-            (folder_of self.new ≡ with_step (folder_of self.old) with_lost_rename) }
+            (disk_history self.new ≡ with_step (disk_history self.old) with_failed_rename) }
     {
         match self.calls.rename_draft() {
             Ok(()) => {
@@ -170,7 +179,7 @@ impl<C: FolderCalls + Drop> Disk<C> {
                 Ok(())
             }
             Err(FolderFault) => {
-                self.history.record_lost_rename();
+                self.history.record_failed_rename();
                 Err(FolderFault)
             }
         }
@@ -178,10 +187,11 @@ impl<C: FolderCalls + Drop> Disk<C> {
 
     /// Waits until the draft's new name is on the disk.
     pub fn sync_folder(&mut self) -> Result<(), FolderFault>
-        requires not_lost { (folder_of self.old).now.is_lost ≡ false }
+        requires not_lost { (disk_history self.old).now.is_lost ≡ false }
         ensures ok { OnOk result
-            (folder_of self.new ≡ with_step (folder_of self.old) with_folder_sync) }
-        ensures err { OnErr result (folder_of self.new ≡ with_step (folder_of self.old) with_loss) }
+            (disk_history self.new ≡ with_step (disk_history self.old) with_folder_sync) }
+        ensures err { OnErr result
+            (disk_history self.new ≡ with_step (disk_history self.old) with_failed_sync) }
     {
         match self.calls.sync_folder() {
             Ok(()) => {
@@ -189,7 +199,7 @@ impl<C: FolderCalls + Drop> Disk<C> {
                 Ok(())
             }
             Err(FolderFault) => {
-                self.history.record_loss();
+                self.history.record_failed_sync();
                 Err(FolderFault)
             }
         }

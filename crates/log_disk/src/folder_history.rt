@@ -2,10 +2,12 @@
 // run time.
 ghost use Rattle.std.specs.Prelude.{◌≡◌, []};
 ghost use Rattle.std.specs.Borrow.{ftrue};
-ghost use Rattle.log_disk.specs.Folders.{History, opened_on, with_step, with_write, with_tear};
-ghost use Rattle.log_disk.specs.Folders.{with_sync, with_loss, with_cut, with_fault, with_draft};
-ghost use Rattle.log_disk.specs.Folders.{with_more_draft, with_no_draft, with_ready_draft};
-ghost use Rattle.log_disk.specs.Folders.{with_rename, with_lost_rename, with_folder_sync};
+ghost use Rattle.log_disk.specs.FolderStates.{History, opened_folder, with_step, with_write};
+ghost use Rattle.log_disk.specs.FolderStates.{with_torn_write};
+ghost use Rattle.log_disk.specs.FolderStates.{with_sync, with_failed_sync, with_cut, with_fault};
+ghost use Rattle.log_disk.specs.FolderStates.{with_draft};
+ghost use Rattle.log_disk.specs.FolderStates.{with_draft_bytes, without_draft, with_ready_draft};
+ghost use Rattle.log_disk.specs.FolderStates.{with_rename, with_failed_rename, with_folder_sync};
 
 use std::marker::Model;
 
@@ -23,14 +25,14 @@ impl Model for FolderHistory {
 impl FolderHistory {
     /// A folder whose file is empty.
     pub fn new() -> FolderHistory
-        ensures exact { result.folder ≡ opened_on [] }
+        ensures exact { result.folder ≡ opened_folder [] }
     {
         FolderHistory {}
     }
 
     /// The folder was opened, and its file has the bytes.
     pub fn record_opening(&mut self, _bytes: &[u8])
-        ensures exact { self.new.folder ≡ opened_on _bytes.now }
+        ensures exact { self.new.folder ≡ opened_folder _bytes.now }
     {}
 
     /// The bytes were written to the file.
@@ -39,8 +41,8 @@ impl FolderHistory {
     {}
 
     /// A write of the bytes failed.
-    pub fn record_tear(&mut self, _bytes: &[u8])
-        ensures exact { self.new.folder ≡ with_step self.old.folder (with_tear _bytes.now) }
+    pub fn record_torn_write(&mut self, _bytes: &[u8])
+        ensures exact { self.new.folder ≡ with_step self.old.folder (with_torn_write _bytes.now) }
     {}
 
     /// The file was synced.
@@ -49,8 +51,8 @@ impl FolderHistory {
     {}
 
     /// A sync failed.
-    pub fn record_loss(&mut self)
-        ensures exact { self.new.folder ≡ with_step self.old.folder with_loss }
+    pub fn record_failed_sync(&mut self)
+        ensures exact { self.new.folder ≡ with_step self.old.folder with_failed_sync }
     {}
 
     /// The file was cut to its synced bytes.
@@ -69,13 +71,13 @@ impl FolderHistory {
     {}
 
     /// The bytes were written to the draft.
-    pub fn record_more_draft(&mut self, _bytes: &[u8])
-        ensures exact { self.new.folder ≡ with_step self.old.folder (with_more_draft _bytes.now) }
+    pub fn record_draft_bytes(&mut self, _bytes: &[u8])
+        ensures exact { self.new.folder ≡ with_step self.old.folder (with_draft_bytes _bytes.now) }
     {}
 
     /// A call on the draft failed.
-    pub fn record_no_draft(&mut self)
-        ensures exact { self.new.folder ≡ with_step self.old.folder with_no_draft }
+    pub fn record_draft_fault(&mut self)
+        ensures exact { self.new.folder ≡ with_step self.old.folder without_draft }
     {}
 
     /// The draft was synced.
@@ -89,8 +91,8 @@ impl FolderHistory {
     {}
 
     /// Renaming the draft failed.
-    pub fn record_lost_rename(&mut self)
-        ensures exact { self.new.folder ≡ with_step self.old.folder with_lost_rename }
+    pub fn record_failed_rename(&mut self)
+        ensures exact { self.new.folder ≡ with_step self.old.folder with_failed_rename }
     {}
 
     /// The folder was synced.

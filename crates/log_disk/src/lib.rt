@@ -2,7 +2,7 @@
 //! `FolderCalls` are the calls, `Disk` keeps what they answered, and `MemFolder` is one in memory
 //! that fails by a plan.
 //! Upward: after each answer contracts see what is on the disk for certain (`FolderState`), and
-//! what a crash may leave (`MayLeave`) is a definition on it. That a call does what its answer
+//! what a crash may leave (`CrashMayLeave`) is a definition on it. That a call does what its answer
 //! says is trusted, and no clause says that a call succeeds. The model is this project's own.
 #![tactic(auto)]
 

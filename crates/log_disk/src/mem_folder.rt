@@ -65,7 +65,7 @@ impl MemFolder {
     }
 
     // Counts a call, and returns whether it fails.
-    fn fails(&mut self) -> bool {
+    fn is_failing_call(&mut self) -> bool {
         let now = self.calls;
         self.calls = self.calls.saturating_add(1);
         match self.plan {
@@ -75,29 +75,29 @@ impl MemFolder {
     }
 
     // How many of the bytes fit after those that are there.
-    fn room(&self, held: usize, more: usize) -> usize
+    fn free_len(&self, held: usize, more: usize) -> usize
         ensures { result ≤ more }
     {
         match self.plan {
-            FaultPlan::Full(room, until) if self.calls <= until => {
-                room.saturating_sub(held).min(more)
+            FaultPlan::Full(free_len, until) if self.calls <= until => {
+                free_len.saturating_sub(held).min(more)
             }
             _ => more,
         }
     }
 
     // How many of the bytes this write writes.
-    fn count(&mut self, held: usize, more: usize) -> usize
+    fn written_len(&mut self, held: usize, more: usize) -> usize
         ensures { result ≤ more }
     {
-        if self.fails() {
+        if self.is_failing_call() {
             return more / 2;
         }
-        self.room(held, more)
+        self.free_len(held, more)
     }
 
     // The draft becomes the file.
-    fn settle(&mut self, bytes: Vec<u8>) -> Result<(), AllocError> {
+    fn replace_file(&mut self, bytes: Vec<u8>) -> Result<(), AllocError> {
         self.seen = bytes.to_vec(self.alloc)?;
         self.synced = bytes;
         self.tail.clear();
@@ -107,11 +107,11 @@ impl MemFolder {
 
 fn all_or_fault<E: Drop>(
     written: Result<(), E>,
-    count: usize,
+    written_len: usize,
     len: usize,
 ) -> Result<(), FolderFault> {
     match written {
-        Ok(()) if count == len => Ok(()),
+        Ok(()) if written_len == len => Ok(()),
         _ => Err(FolderFault),
     }
 }
@@ -119,14 +119,14 @@ fn all_or_fault<E: Drop>(
 impl FolderCalls for MemFolder {
     fn write(&mut self, bytes: &[u8]) -> Result<(), FolderFault> {
         let held = self.seen.len();
-        let count = self.count(held, bytes.len());
-        let _ = self.tail.extend_from_slice(&bytes[..count]);
-        let written = self.seen.extend_from_slice(&bytes[..count]);
-        all_or_fault(written, count, bytes.len())
+        let written_len = self.written_len(held, bytes.len());
+        let _ = self.tail.extend_from_slice(&bytes[..written_len]);
+        let written = self.seen.extend_from_slice(&bytes[..written_len]);
+        all_or_fault(written, written_len, bytes.len())
     }
 
     fn sync(&mut self) -> Result<(), FolderFault> {
-        if self.fails() {
+        if self.is_failing_call() {
             return Err(FolderFault);
         }
         self.syncs = self.syncs.saturating_add(1);
@@ -141,7 +141,7 @@ impl FolderCalls for MemFolder {
     }
 
     fn cut(&mut self) -> Result<(), FolderFault> {
-        if self.fails() {
+        if self.is_failing_call() {
             return Err(FolderFault);
         }
         self.seen.truncate(self.synced.len());
@@ -149,7 +149,7 @@ impl FolderCalls for MemFolder {
     }
 
     fn begin_draft(&mut self) -> Result<[u8; 8], FolderFault> {
-        if self.fails() {
+        if self.is_failing_call() {
             return Err(FolderFault);
         }
         self.draft.clear();
@@ -158,22 +158,22 @@ impl FolderCalls for MemFolder {
 
     fn write_draft(&mut self, bytes: &[u8]) -> Result<(), FolderFault> {
         let held = self.draft.len();
-        let count = self.count(held, bytes.len());
-        let written = self.draft.extend_from_slice(&bytes[..count]);
-        all_or_fault(written, count, bytes.len())
+        let written_len = self.written_len(held, bytes.len());
+        let written = self.draft.extend_from_slice(&bytes[..written_len]);
+        all_or_fault(written, written_len, bytes.len())
     }
 
     fn sync_draft(&mut self) -> Result<(), FolderFault> {
-        if self.fails() {
+        if self.is_failing_call() {
             return Err(FolderFault);
         }
         Ok(())
     }
 
     fn rename_draft(&mut self) -> Result<(), FolderFault> {
-        let fails = self.fails();
+        let is_failing_call = self.is_failing_call();
         match self.draft.to_vec(self.alloc) {
-            Ok(bytes) if !fails => {
+            Ok(bytes) if !is_failing_call => {
                 self.renamed = Some(bytes);
                 Ok(())
             }
@@ -186,13 +186,13 @@ impl FolderCalls for MemFolder {
     }
 
     fn sync_folder(&mut self) -> Result<(), FolderFault> {
-        if self.fails() {
+        if self.is_failing_call() {
             return Err(FolderFault);
         }
         let Some(bytes) = self.renamed.take() else {
             return Ok(());
         };
-        match self.settle(bytes) {
+        match self.replace_file(bytes) {
             Ok(()) => Ok(()),
             Err(_) => Err(FolderFault),
         }

@@ -2,7 +2,7 @@
 use Rattle.std.proofs.Common.{◌≡◌, ℕ, zero, suc, ◌+◌, ◌≤◌, List, [], ◌∷◌, ◌++◌, length, drop, Bool, true, false, cond, Option, Some, None, refl, sym, ap, subst, ◌∙◌, append_assoc, arith, length-drop, length-take}
 use Rattle.std.specs.List.{AllByRecursion}
 use Rattle.std.proofs.lemmas.Bool.{ltb-false}
-use Rattle.log_entries.specs.Entries.{Entry, Fits, text, entry_bytes, entry_of_length, entry_at, stated_body, stated_length, stated_entry, whole, whole_after, in_front}
+use Rattle.log_entries.specs.Entries.{Entry, FitsEntryForm, entries_bytes, entry_bytes, entry_of_length, entry_at, stated_body, stated_length, stated_entry, leading_entries, leading_entries_after, with_entry_in_front}
 use Rattle.log_entries.proofs.ReadBack.{entry_again}
 
 -- what an entry that was read took
@@ -39,38 +39,38 @@ took mark bytes x e =
     let second = not_none _ _ x first.1 in
     took_length mark bytes (stated_length bytes) x second.1
 
-after_drop : (mark bytes : List ℕ) (k : ℕ) → whole_after mark bytes k ≡ whole_after mark (drop k bytes) 0
+after_drop : (mark bytes : List ℕ) (k : ℕ) → leading_entries_after mark bytes k ≡ leading_entries_after mark (drop k bytes) 0
 after_drop mark [] zero = refl
 after_drop mark [] (suc k) = refl
 after_drop mark (b ∷ bytes) zero = refl
 after_drop mark (b ∷ bytes) (suc k) = after_drop mark bytes k
 
 abbrev by_first : List ℕ → ℕ → List ℕ → Option (Entry × List ℕ) → List Entry × List ℕ
-by_first mark b bytes o = elim o [ None ↦ ([], b ∷ bytes) | Some x ↦ in_front x.0 (whole_after mark bytes (27 + length x.0.content)) ]
+by_first mark b bytes o = elim o [ None ↦ ([], b ∷ bytes) | Some x ↦ with_entry_in_front x.0 (leading_entries_after mark bytes (27 + length x.0.content)) ]
 
-pub whole_some : (mark bytes : List ℕ) (e : Entry) (after : List ℕ) → entry_at mark bytes ≡ Some (e, after) → whole mark bytes ≡ in_front e (whole mark after)
-unfolding whole
+pub whole_some : (mark bytes : List ℕ) (e : Entry) (after : List ℕ) → entry_at mark bytes ≡ Some (e, after) → leading_entries mark bytes ≡ with_entry_in_front e (leading_entries mark after)
+unfolding leading_entries
 whole_some mark [] e after is = absurd (omega (arith, (took mark [] (e, after) is).long))
 whole_some mark (b ∷ bytes) e after is =
     let t = took mark (b ∷ bytes) (e, after) is in
     ap (by_first mark b bytes) is
-    ∙ ap (in_front e) (after_drop mark bytes (27 + length e.content))
-    ∙ ap (λ (l : List ℕ). in_front e (whole_after mark l 0)) (tail (length e.content) ∙ sym t.rest)
+    ∙ ap (with_entry_in_front e) (after_drop mark bytes (27 + length e.content))
+    ∙ ap (λ (l : List ℕ). with_entry_in_front e (leading_entries_after mark l 0)) (tail (length e.content) ∙ sym t.rest)
   where
     tail : (n : ℕ) → drop (27 + n) bytes ≡ drop (28 + n) (b ∷ bytes)
     tail n = let same : 28 + n ≡ suc (27 + n) = omega arith in ap (λ (k : ℕ). drop k (b ∷ bytes)) (sym same)
 
-pub whole_none : (mark bytes : List ℕ) → entry_at mark bytes ≡ None → whole mark bytes ≡ ([], bytes)
-unfolding whole
+pub whole_none : (mark bytes : List ℕ) → entry_at mark bytes ≡ None → leading_entries mark bytes ≡ ([], bytes)
+unfolding leading_entries
 whole_none mark [] is = refl
 whole_none mark (b ∷ bytes) is = ap (by_first mark b bytes) is
 
 -- the entries that were written, and what is whole after them
-pub whole_text : (mark : List ℕ) (es : List Entry) (tail : List ℕ) → length mark ≡ 8 → AllByRecursion Fits es
-    → whole mark (text mark es ++ tail) ≡ (es ++ (whole mark tail).0, (whole mark tail).1)
+pub whole_text : (mark : List ℕ) (es : List Entry) (tail : List ℕ) → length mark ≡ 8 → AllByRecursion FitsEntryForm es
+    → leading_entries mark (entries_bytes mark es ++ tail) ≡ (es ++ (leading_entries mark tail).0, (leading_entries mark tail).1)
 whole_text mark [] tail marked fit = refl
 whole_text mark (e ∷ es) tail marked fit =
-    let rest = text mark es ++ tail in
-    ap (whole mark) (append_assoc (entry_bytes mark e) (text mark es) tail)
+    let rest = entries_bytes mark es ++ tail in
+    ap (leading_entries mark) (append_assoc (entry_bytes mark e) (entries_bytes mark es) tail)
     ∙ whole_some mark (entry_bytes mark e ++ rest) e rest (entry_again mark marked e fit.0 rest)
-    ∙ ap (in_front e) (whole_text mark es tail marked fit.1)
+    ∙ ap (with_entry_in_front e) (whole_text mark es tail marked fit.1)

@@ -13,8 +13,8 @@ pub record Entry : Type 0 where
   pub content : List ℕ
 
 -- what the checksum covers: the number in eight bytes, the highest first, and the content
-abbrev pub body : Entry → List ℕ
-body e = to_be_bytes w64 e.number ++ e.content
+abbrev pub entry_body : Entry → List ℕ
+entry_body e = to_be_bytes w64 e.number ++ e.content
 
 -- The bytes of an entry: the file's mark in eight bytes, the length of the content in four, the
 -- checksum and the number in eight each, and the content. The mark is the key of the checksum, too.
@@ -22,14 +22,14 @@ abbrev pub entry_bytes : List ℕ → Entry → List ℕ
 entry_bytes mark e =
     mark
     ++ (to_be_bytes w32 (length e.content)
-    ++ (to_be_bytes w64 (checksum mark (body e)) ++ body e))
+    ++ (to_be_bytes w64 (checksum mark (entry_body e)) ++ entry_body e))
 
 -- the bytes of the entries, one after the other
-abbrev pub text : List ℕ → List Entry → List ℕ
-text mark es = flat_map (entry_bytes mark) es
+abbrev pub entries_bytes : List ℕ → List Entry → List ℕ
+entries_bytes mark es = flat_map (entry_bytes mark) es
 
 -- the entry fits the form
-pub record Fits (e : Entry) : Type 0 where
+pub record FitsEntryForm (e : Entry) : Type 0 where
   pub number : e.number < 2 ^ 64
   pub content : length e.content < 2 ^ 32
 
@@ -67,23 +67,24 @@ entry_at mark bytes =
     else entry_of_length mark bytes (stated_length bytes)
 
 -- one entry more in front
-abbrev pub in_front : Entry → List Entry × List ℕ → List Entry × List ℕ
-in_front e found = (e ∷ found.0, found.1)
+abbrev pub with_entry_in_front : Entry → List Entry × List ℕ → List Entry × List ℕ
+with_entry_in_front e found = (e ∷ found.0, found.1)
 
 -- The entries that are whole after the first k bytes, one after the other, and the bytes after
 -- them.
-abbrev pub whole_after : List ℕ → List ℕ → ℕ → List Entry × List ℕ
-whole_after mark [] k = ([], [])
-whole_after mark (b ∷ bytes) (suc k) = whole_after mark bytes k
-whole_after mark (b ∷ bytes) zero =
+abbrev pub leading_entries_after : List ℕ → List ℕ → ℕ → List Entry × List ℕ
+leading_entries_after mark [] k = ([], [])
+leading_entries_after mark (b ∷ bytes) (suc k) = leading_entries_after mark bytes k
+leading_entries_after mark (b ∷ bytes) zero =
     elim (entry_at mark (b ∷ bytes)) [
       | None ↦ ([], b ∷ bytes)
-      | Some x ↦ in_front x.0 (whole_after mark bytes (27 + length x.0.content))
+      | Some x ↦ with_entry_in_front x.0
+          (leading_entries_after mark bytes (27 + length x.0.content))
     ]
 
 -- the entries that are whole at the front of the bytes, and the bytes after them
-unfoldable pub whole : List ℕ → List ℕ → List Entry × List ℕ
-whole mark bytes = whole_after mark bytes 0
+unfoldable pub leading_entries : List ℕ → List ℕ → List Entry × List ℕ
+leading_entries mark bytes = leading_entries_after mark bytes 0
 
 -- an entry begins anywhere in the bytes
 abbrev pub has_entry : List ℕ → List ℕ → Bool

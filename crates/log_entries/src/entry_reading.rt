@@ -5,14 +5,14 @@ ghost use Rattle.log_entries.specs.Entries.{Entry, entry_at, entry_of_length, ha
 
 use crate::checksums::checksum;
 
-fn u32_of(bytes: &[u8]) -> u32
+fn read_u32(bytes: &[u8]) -> u32
     requires { 4 ≤ length bytes.now }
     ensures exact { result ≡ from_be_bytes w32 (take 4 bytes.now) }
 {
     u32::from_be_bytes([bytes[0], bytes[1], bytes[2], bytes[3]])
 }
 
-fn u64_of(bytes: &[u8]) -> u64
+fn read_u64(bytes: &[u8]) -> u64
     requires { 8 ≤ length bytes.now }
     ensures exact { result ≡ from_be_bytes w64 (take 8 bytes.now) }
 {
@@ -32,10 +32,10 @@ fn entry_of_length<'a>(mark: &[u8], bytes: &'a [u8], len: u32) -> Option<(u64, &
         return None;
     }
     let body = &bytes[20..len];
-    if checksum(mark, body) != u64_of(&bytes[12..]) {
+    if checksum(mark, body) != read_u64(&bytes[12..]) {
         return None;
     }
-    Some((u64_of(body), &body[8..], &bytes[len..]))
+    Some((read_u64(body), &body[8..], &bytes[len..]))
 }
 
 /// The number and the content of the entry that is whole at the front of the bytes, and the bytes
@@ -52,7 +52,7 @@ pub fn entry_at<'a>(mark: &[u8], bytes: &'a [u8]) -> Option<(u64, &'a [u8], &'a 
     if &bytes[..8] != mark {
         return None;
     }
-    entry_of_length(mark, bytes, u32_of(&bytes[8..]))
+    entry_of_length(mark, bytes, read_u32(&bytes[8..]))
 }
 
 /// Whether an entry begins anywhere in the bytes. Does not allocate.

@@ -8,7 +8,7 @@ use Rattle.xml_names.specs.declared.names.Decl.{Decl}
 use Rattle.xml_tree.proofs.TreeScopeLemmas.{scope_at-below}
 use Rattle.node_select.specs.declared.selector.Step.{Step}
 use Rattle.node_select.specs.Selection.{SelectsChild, SelectsAmong, SelectsPath}
-use Rattle.node_select.specs.LastStep.{Parent}
+use Rattle.node_select.specs.LastSteps.{SelectsChildAt}
 use Rattle.node_select.proofs.ReachLemmas.{path_is}
 
 pub one_path : (steps : List Step) (root : Tree) (p q : List ℕ) → SelectsPath steps root p → SelectsPath steps root q → p ≡ q
@@ -41,7 +41,7 @@ below_kid n p e child_element there = ap (λ (o : Option Tree). unwrap_or (optio
 scope_of_kid : (c : List (List Decl)) (n : ℕ) (p : List ℕ) (e child_element : Tree) → slice_get (child_elements_of e) n ≡ Some child_element → c ++ scope_below (n ∷ p) e ≡ inside c child_element ++ scope_below p child_element
 scope_of_kid c n p e child_element there = ap (λ (l : List (List Decl)). c ++ l) (below_kid n p e child_element there) ∙ sym (append_assoc c (child_element.decls ∷ []) (scope_below p child_element))
 
-last_to : (steps : List Step) (c : List (List Decl)) (e : Tree) (p : List ℕ) (s : Step) (i : ℕ) → SelectsAmong c (child_elements_of e) (steps ++ s ∷ []) (p ++ i ∷ []) → SelectsAmong c (child_elements_of e) steps p × Parent c e p s i
+last_to : (steps : List Step) (c : List (List Decl)) (e : Tree) (p : List ℕ) (s : Step) (i : ℕ) → SelectsAmong c (child_elements_of e) (steps ++ s ∷ []) (p ++ i ∷ []) → SelectsAmong c (child_elements_of e) steps p × SelectsChildAt c e p s i
 last_to [] c e [] s i h = (tt, record { element = e; there = refl; selects = subst (λ (z : List (List Decl)). SelectsChild z s (child_elements_of e) i) (sym (append-nil c)) h.0 })
 last_to [] c e (n ∷ []) s i h = absurd h.1.2
 last_to [] c e (n ∷ m ∷ p) s i h = absurd h.1.2
@@ -61,7 +61,7 @@ last_to (t ∷ steps) c e (n ∷ p) s i h =
       },
     )
 
-last_from : (steps : List Step) (c : List (List Decl)) (e : Tree) (p : List ℕ) (s : Step) (i : ℕ) → SelectsAmong c (child_elements_of e) steps p → Parent c e p s i → SelectsAmong c (child_elements_of e) (steps ++ s ∷ []) (p ++ i ∷ [])
+last_from : (steps : List Step) (c : List (List Decl)) (e : Tree) (p : List ℕ) (s : Step) (i : ℕ) → SelectsAmong c (child_elements_of e) steps p → SelectsChildAt c e p s i → SelectsAmong c (child_elements_of e) (steps ++ s ∷ []) (p ++ i ∷ [])
 last_from [] c e [] s i h q =
     let same : q.element ≡ e = sym (same_Some e q.element q.there) in
     let one : SelectsChild c s (child_elements_of e) i = subst (λ (t : Tree). SelectsChild c s (child_elements_of t) i) same (subst (λ (z : List (List Decl)). SelectsChild z s (child_elements_of q.element) i) (append-nil c) q.selects) in
@@ -84,14 +84,14 @@ last_from (t ∷ steps) c e (n ∷ p) s i h q =
       ),
     )
 
-pub last_step_to : (first : Step) (steps : List Step) (s : Step) (root : Tree) (p : List ℕ) (i : ℕ) → SelectsPath (first ∷ (steps ++ s ∷ [])) root (p ++ i ∷ []) → SelectsPath (first ∷ steps) root p × Parent (root.decls ∷ []) root p s i
+pub last_step_to : (first : Step) (steps : List Step) (s : Step) (root : Tree) (p : List ℕ) (i : ℕ) → SelectsPath (first ∷ (steps ++ s ∷ [])) root (p ++ i ∷ []) → SelectsPath (first ∷ steps) root p × SelectsChildAt (root.decls ∷ []) root p s i
 last_step_to first steps s root p i h =
     let k = h.1 in
     let same : k.0 ≡ root = sym (same_Some root k.0 k.1) in
     let r = last_to steps (root.decls ∷ []) root p s i (subst (λ (t : Tree). SelectsAmong (inside [] t) (child_elements_of t) (steps ++ s ∷ []) (p ++ i ∷ [])) same k.2) in
     ((h.0, (root, refl, r.0)), r.1)
 
-pub last_step_from : (first : Step) (steps : List Step) (s : Step) (root : Tree) (p : List ℕ) (i : ℕ) → SelectsPath (first ∷ steps) root p × Parent (root.decls ∷ []) root p s i → SelectsPath (first ∷ (steps ++ s ∷ [])) root (p ++ i ∷ [])
+pub last_step_from : (first : Step) (steps : List Step) (s : Step) (root : Tree) (p : List ℕ) (i : ℕ) → SelectsPath (first ∷ steps) root p × SelectsChildAt (root.decls ∷ []) root p s i → SelectsPath (first ∷ (steps ++ s ∷ [])) root (p ++ i ∷ [])
 last_step_from first steps s root p i (h, q) =
     let k = h.1 in
     let same : k.0 ≡ root = sym (same_Some root k.0 k.1) in

@@ -4,7 +4,7 @@ use Rattle.std.proofs.lemmas.Bool.{cases_order, cases_lt}
 use Rattle.std.proofs.lemmas.Option.{same_Some}
 use Rattle.node_select.specs.StepSelection.{IsAtPosition, Matches, Selects}
 use Rattle.node_select.specs.InsertionPoints.{IsLawfulInsertion}
-use Rattle.node_select.specs.Edits.{IsNextMatch, IsPassedOver, shifted}
+use Rattle.node_select.specs.Edits.{IsNextMatch, IsPassedOver, number_after_insertion}
 use Rattle.node_select.proofs.ListEdits.{get-insert_at, count-insert_behind, count_up_to, count_past, count_same, no_more, insert-remove, insert-remove_other, length_removed}
 use Rattle.node_select.proofs.GapLaws.{match_before, match_behind, match_behind_free, lawful_from, lawful_named, lawful_tested, lawful_position, lawful_free}
 
@@ -15,10 +15,10 @@ not_lt i gap le = grind arith
 lt_true : (i gap : ℕ) → i < gap → nat_lt i gap ≡ true
 lt_true i gap lt = grind arith
 
-shifted_before : (gap i : ℕ) → i < gap → shifted gap i ≡ i
+shifted_before : (gap i : ℕ) → i < gap → number_after_insertion gap i ≡ i
 shifted_before gap i lt = rw (lt_true i gap lt) refl
 
-shifted_behind : (gap i : ℕ) → gap ≤ i → shifted gap i ≡ suc i
+shifted_behind : (gap i : ℕ) → gap ≤ i → number_after_insertion gap i ≡ suc i
 shifted_behind gap i le = rw (not_lt i gap le) refl
 
 -- ---- a child that the step passes over
@@ -41,14 +41,14 @@ behind named tested (Some p) xs gap e i le from over =
     let same : count_by named (take (suc i) (insert xs gap e)) ≡ count_by named (take i xs) = omega (arith, count-insert_behind named xs gap e i le from, no_more named e over) in
     match_behind named tested (Some p) xs gap e i le from (λ h. subst (λ k. IsAtPosition (Some p) k) same h, λ h. subst (λ k. IsAtPosition (Some p) k) (sym same) h)
 
-pub match_shifted : {A : Type 0} (named tested : A → Bool) (position : Option ℕ) (xs : List A) (gap : ℕ) (e : A) (i : ℕ) → gap ≤ length xs → IsPassedOver named tested position e → Matches named tested position (insert xs gap e) (shifted gap i) ↔ Matches named tested position xs i
+pub match_shifted : {A : Type 0} (named tested : A → Bool) (position : Option ℕ) (xs : List A) (gap : ℕ) (e : A) (i : ℕ) → gap ≤ length xs → IsPassedOver named tested position e → Matches named tested position (insert xs gap e) (number_after_insertion gap i) ↔ Matches named tested position xs i
 match_shifted named tested position xs gap e i le over = by (cases_lt i gap)
   where
-    by : (i < gap) ⊎ (gap ≤ i) → Matches named tested position (insert xs gap e) (shifted gap i) ↔ Matches named tested position xs i
+    by : (i < gap) ⊎ (gap ≤ i) → Matches named tested position (insert xs gap e) (number_after_insertion gap i) ↔ Matches named tested position xs i
     by (inl lt) = rw (shifted_before gap i lt) (match_before named tested position xs gap e i le lt)
     by (inr from) = rw (shifted_behind gap i from) (behind named tested position xs gap e i le from over)
 
-one_to_one : (gap i k : ℕ) → shifted gap k ≡ shifted gap i → k ≡ i
+one_to_one : (gap i k : ℕ) → number_after_insertion gap k ≡ number_after_insertion gap i → k ≡ i
 one_to_one gap i k h = by (cases_lt i gap) (cases_lt k gap)
   where
     by : (i < gap) ⊎ (gap ≤ i) → (k < gap) ⊎ (gap ≤ k) → k ≡ i
@@ -57,18 +57,18 @@ one_to_one gap i k h = by (cases_lt i gap) (cases_lt k gap)
     by (inr a) (inl b) = let e = sym (shifted_before gap k b) ∙ h ∙ shifted_behind gap i a in absurd (omega arith)
     by (inr a) (inr b) = let e = sym (shifted_behind gap k b) ∙ h ∙ shifted_behind gap i a in omega arith
 
-from_before : (gap k : ℕ) → k < gap → (i : ℕ) × (k ≡ shifted gap i)
+from_before : (gap k : ℕ) → k < gap → (i : ℕ) × (k ≡ number_after_insertion gap i)
 from_before gap k lt = (k, sym (shifted_before gap k lt))
 
-from_behind : (gap k : ℕ) → gap < k → (i : ℕ) × (k ≡ shifted gap i)
+from_behind : (gap k : ℕ) → gap < k → (i : ℕ) × (k ≡ number_after_insertion gap i)
 from_behind gap zero lt = absurd (omega arith)
 from_behind gap (suc k) lt = (k, sym (shifted_behind gap k (omega arith)))
 
-pub select_shifted : {A : Type 0} (named tested : A → Bool) (position : Option ℕ) (xs : List A) (gap : ℕ) (e : A) (i : ℕ) → gap ≤ length xs → IsPassedOver named tested position e → Selects named tested position (insert xs gap e) (shifted gap i) ↔ Selects named tested position xs i
+pub select_shifted : {A : Type 0} (named tested : A → Bool) (position : Option ℕ) (xs : List A) (gap : ℕ) (e : A) (i : ℕ) → gap ≤ length xs → IsPassedOver named tested position e → Selects named tested position (insert xs gap e) (number_after_insertion gap i) ↔ Selects named tested position xs i
 select_shifted named tested position xs gap e i le over = (
   λ s. record {
     this = (match_shifted named tested position xs gap e i le over).0 s.this;
-    alone = λ k m. one_to_one gap i k (s.alone (shifted gap k) ((match_shifted named tested position xs gap e k le over).1 m));
+    alone = λ k m. one_to_one gap i k (s.alone (number_after_insertion gap k) ((match_shifted named tested position xs gap e k le over).1 m));
   },
   λ s. record {
     this = (match_shifted named tested position xs gap e i le over).1 s.this;
@@ -76,20 +76,20 @@ select_shifted named tested position xs gap e i le over = (
   },
 )
   where
-    came_from : Selects named tested position xs i → (k : ℕ) → Matches named tested position (insert xs gap e) k → (j : ℕ) × (k ≡ shifted gap j) → k ≡ shifted gap i
+    came_from : Selects named tested position xs i → (k : ℕ) → Matches named tested position (insert xs gap e) k → (j : ℕ) × (k ≡ number_after_insertion gap j) → k ≡ number_after_insertion gap i
     came_from s k m (j, same) =
-        let n : Matches named tested position (insert xs gap e) (shifted gap j) = subst (λ z. Matches named tested position (insert xs gap e) z) same m in
-        same ∙ ap (shifted gap) (s.alone j ((match_shifted named tested position xs gap e j le over).0 n))
+        let n : Matches named tested position (insert xs gap e) (number_after_insertion gap j) = subst (λ z. Matches named tested position (insert xs gap e) z) same m in
+        same ∙ ap (number_after_insertion gap) (s.alone j ((match_shifted named tested position xs gap e j le over).0 n))
 
-    by : Selects named tested position xs i → (k : ℕ) → Matches named tested position (insert xs gap e) k → (k ≡ gap) ⊎ ((k < gap) ⊎ (gap < k)) → k ≡ shifted gap i
+    by : Selects named tested position xs i → (k : ℕ) → Matches named tested position (insert xs gap e) k → (k ≡ gap) ⊎ ((k < gap) ⊎ (gap < k)) → k ≡ number_after_insertion gap i
     by s k m (inl same) = absurd (not_new named tested position xs gap e le over (subst (λ z. Matches named tested position (insert xs gap e) z) same m))
     by s k m (inr (inl lt)) = came_from s k m (from_before gap k lt)
     by s k m (inr (inr lt)) = came_from s k m (from_behind gap k lt)
 
 -- ---- a child that the step passes over is removed
-pub select_remove_over : {A : Type 0} (named tested : A → Bool) (position : Option ℕ) (child_elements : List A) (j : ℕ) (x : A) (i : ℕ) → slice_get child_elements j ≡ Some x → IsPassedOver named tested position x → Selects named tested position child_elements (shifted j i) ↔ Selects named tested position (remove child_elements j) i
+pub select_remove_over : {A : Type 0} (named tested : A → Bool) (position : Option ℕ) (child_elements : List A) (j : ℕ) (x : A) (i : ℕ) → slice_get child_elements j ≡ Some x → IsPassedOver named tested position x → Selects named tested position child_elements (number_after_insertion j i) ↔ Selects named tested position (remove child_elements j) i
 select_remove_over named tested position child_elements j x i there over =
-    subst (λ l. Selects named tested position l (shifted j i) ↔ Selects named tested position (remove child_elements j) i) (insert-remove child_elements j x there)
+    subst (λ l. Selects named tested position l (number_after_insertion j i) ↔ Selects named tested position (remove child_elements j) i) (insert-remove child_elements j x there)
     (select_shifted named tested position (remove child_elements j) j x i (length_removed child_elements j x there) over)
 
 -- ---- the selected child removed

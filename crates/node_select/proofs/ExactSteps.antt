@@ -5,10 +5,10 @@ use Rattle.std.proofs.lemmas.List.{append_cancel_left, append-nil, length-append
 use Rattle.xml_names.specs.Characters.{is_name_start}
 use Rattle.xml_names.specs.declared.names.Decl.{Decl}
 use Rattle.std.specs.Char.{is_ascii_digit as is_digit}
-use Rattle.xml_grammar.specs.Rules.{Event, Begin, Mark, Rule, word, sequence, optional, keeping_first, keeping_second, map_rule, some_of}
-use Rattle.xml_grammar.specs.TextReading.{head_is, starts}
-use Rattle.xml_grammar.specs.readers.Functions.{read_optional}
-use Rattle.xml_grammar.specs.Answers.{Faults}
+use Rattle.xml_grammar.specs.Rules.{Event, Begin, Mark, Rule, word, sequence, optional, keep_first, keep_second, map_rule, one_or_more}
+use Rattle.xml_grammar.specs.TextReading.{first_char_is, starts_with_word}
+use Rattle.xml_grammar.specs.readers.RuleReaders.{read_optional}
+use Rattle.xml_grammar.specs.ParseResults.{FaultRanking}
 use Rattle.xml_grammar.proofs.Exact.{Rest, ahead, Exact, IsRead, Passed, exact_sequence}
 use Rattle.xml_grammar.proofs.Carry.{Idle, Covers, exact_valued, covers_either, covers_valued}
 use Rattle.xml_grammar.proofs.Fronts.{GoesOn, compare}
@@ -20,11 +20,11 @@ use Rattle.xml_grammar.proofs.Tests.{exact_optional_head, passed_covers, failed_
 use Rattle.xml_tokens.specs.declared.fault_kind.FaultKind.{FaultKind}
 use Rattle.node_select.specs.declared.selector.NameTest.TheVariants.{Any}
 use Rattle.node_select.specs.declared.selector.AttrTest.{AttrTest}
-use Rattle.node_select.specs.Grammar.{IsUnbound, node_name, position_of, position, attribute, value, test, step}
-use Rattle.node_select.specs.readers.SelectorValues.{element_test, attr_test, step_of}
-use Rattle.node_select.specs.readers.Words.{at_sign, open_bracket, close_bracket, equals_sign}
+use Rattle.node_select.specs.Grammar.{MarksUnboundName, node_name, position_of, position, attribute, value, test, step}
+use Rattle.node_select.specs.readers.SelectorValues.{element_test, attr_test, step_from_parts}
+use Rattle.node_select.specs.readers.Literals.{at_sign, open_bracket, close_bracket, equals_sign}
 use Rattle.node_select.specs.readers.Selectors.{position_follows, test_follows, read_position}
-use Rattle.node_select.specs.Faults.{marks}
+use Rattle.node_select.specs.Faults.{fault_ranking}
 use Rattle.node_select.proofs.NameReading.{judged_test, judged_step}
 use Rattle.node_select.proofs.ExactParts.{Is, clash, in_qname, starts_qname, exact_position, exact_test, exact_node_name, lawful_position, lawful_test, lawful_node_name}
 
@@ -50,7 +50,7 @@ led_position : Led open_bracket (λ c. is_digit c ≡ true) position
 led_position = led_valued (λ x. x.1) (led_then open_bracket (starts_before (word close_bracket) (starts_valued position_of (starts_some_of (λ c m. m)))))
 
 starts_position : {P : ℕ → Type 0} → P 91 → Starts P position
-starts_position h = starts_behind (keeping_first (map_rule position_of (some_of is_digit)) (word close_bracket)) (starts_word h)
+starts_position h = starts_behind (keep_first (map_rule position_of (one_or_more is_digit)) (word close_bracket)) (starts_word h)
 
 module _ (bindings : List Decl) (default : List ℕ) where
   abbrev tested : Rule FaultKind AttrTest
@@ -59,21 +59,21 @@ module _ (bindings : List Decl) (default : List ℕ) where
   led_test : Led open_bracket (Is 64) tested
   led_test =
       led_valued (λ x. x.1)
-      (led_then open_bracket (starts_before (word close_bracket) (starts_valued (attr_test bindings default) (starts_sequence (λ _. keeping_second (word equals_sign) value) (starts_behind _ (starts_word refl))))))
+      (led_then open_bracket (starts_before (word close_bracket) (starts_valued (attr_test bindings default) (starts_sequence (λ _. keep_second (word equals_sign) value) (starts_behind _ (starts_word refl))))))
 
   starts_test : {P : ℕ → Type 0} → P 91 → Starts P tested
-  starts_test h = starts_behind (keeping_first (map_rule (attr_test bindings default) (sequence (attribute bindings default) (λ _. keeping_second (word equals_sign) value))) (word close_bracket)) (starts_word h)
+  starts_test h = starts_behind (keep_first (map_rule (attr_test bindings default) (sequence (attribute bindings default) (λ _. keep_second (word equals_sign) value))) (word close_bracket)) (starts_word h)
 
   pub lawful_step : Lawful (step bindings default)
   lawful_step =
-      lawful_valued step_of
+      lawful_valued step_from_parts
       (lawful_sequence (lawful_sequence (lawful_node_name bindings default) (λ _. lawful_optional lawful_position)) (λ _. lawful_optional (lawful_test bindings default)))
 
   pub starts_step : {P : ℕ → Type 0} → P 42 → ((c : ℕ) → is_name_start c ≡ true → P c) → Starts P (step bindings default)
-  starts_step {P} a b = starts_valued step_of (starts_sequence (λ _. optional tested) (starts_sequence (λ _. optional position) names))
+  starts_step {P} a b = starts_valued step_from_parts (starts_sequence (λ _. optional tested) (starts_sequence (λ _. optional position) names))
     where
       names : Starts P (node_name bindings default)
-      names = starts_either (starts_valued (λ _. Any) (starts_word a)) (starts_valued (element_test bindings default) (starts_judged (IsUnbound bindings) (starts_weaker b starts_qname)))
+      names = starts_either (starts_valued (λ _. Any) (starts_word a)) (starts_valued (element_test bindings default) (starts_judged (MarksUnboundName bindings) (starts_weaker b starts_qname)))
 
   module _ (on : Bool) {K : Rest FaultKind} (h : Heads (Is 47) K) (inside : Inside K) where
     abbrev rest_test : Rest FaultKind
@@ -91,31 +91,31 @@ module _ (bindings : List Decl) (default : List ℕ) where
     inside_position : Inside (ahead (optional position) (λ _. rest_test))
     inside_position = inside_ahead (lawful_optional lawful_position) (λ _. inside_ahead (lawful_optional (lawful_test bindings default)) (λ _. inside))
 
-    exact_optional_test : Exact (marks on) (optional tested) (λ _. K) (read_optional test_follows (judged_test bindings default on))
+    exact_optional_test : Exact (fault_ranking on) (optional tested) (λ _. K) (read_optional test_follows (judged_test bindings default on))
     exact_optional_test = exact_optional_head (λ c. c == 91) (starts_test refl) (λ c m. m) (slash_not (λ c. c == 91) refl) (λ c t m. clash (c == 91) t m) (exact_test bindings default on inside)
 
-    goes : (text : List ℕ) → head_is (λ c. c == 91) text ≡ true → starts (open_bracket ++ at_sign) text ≡ false → Covers (marks on) text rest_test (ahead position (λ _. rest_test))
+    goes : (text : List ℕ) → first_char_is (λ c. c == 91) text ≡ true → starts_with_word (open_bracket ++ at_sign) text ≡ false → Covers (fault_ranking on) text rest_test (ahead position (λ _. rest_test))
     goes text t f =
         covers_either (covers_valued Some (other_covers open_bracket 64 led_test led_position f))
         (covers_empty (passed_covers (λ c. c == 91) (slash_not (λ c. c == 91) refl) (λ c t m. clash (c == 91) t m) t))
 
-    stops : (text : List ℕ) (a b : Bool) → head_is (λ c. c == 91) text ≡ a → starts (open_bracket ++ at_sign) text ≡ b → (a && not b) ≡ false → Covers (marks on) text (ahead position (λ _. rest_test)) rest_test
+    stops : (text : List ℕ) (a b : Bool) → first_char_is (λ c. c == 91) text ≡ a → starts_with_word (open_bracket ++ at_sign) text ≡ b → (a && not b) ≡ false → Covers (fault_ranking on) text (ahead position (λ _. rest_test)) rest_test
     stops text false b e f n = failed_covers (λ c. c == 91) (starts_position refl) (λ c m. m) e
     stops text true true e f n = covers_by (into_optional tested K) (next_covers {K = λ _. K} open_bracket 64 led_position led_test (λ d. cc) f)
     stops text true false e f n = absurd cc
 
-    exact_optional_position : Exact (marks on) (optional position) (λ _. rest_test) (read_optional position_follows read_position)
+    exact_optional_position : Exact (fault_ranking on) (optional position) (λ _. rest_test) (read_optional position_follows read_position)
     exact_optional_position = exact_optional position_follows exact_position
-        (λ text t. goes text (and_left (head_is (λ c. c == 91) text) _ t) (not_true _ (and_right (head_is (λ c. c == 91) text) _ t)))
-        (λ text f. stops text (head_is (λ c. c == 91) text) (starts (open_bracket ++ at_sign) text) refl refl f)
+        (λ text t. goes text (and_left (first_char_is (λ c. c == 91) text) _ t) (not_true _ (and_right (first_char_is (λ c. c == 91) text) _ t)))
+        (λ text f. stops text (first_char_is (λ c. c == 91) text) (starts_with_word (open_bracket ++ at_sign) text) refl refl f)
 
-    pub exact_step : Exact (marks on) (step bindings default) (λ _. K) (judged_step bindings default on)
+    pub exact_step : Exact (fault_ranking on) (step bindings default) (λ _. K) (judged_step bindings default on)
     exact_step =
-        exact_valued step_of
+        exact_valued step_from_parts
         (exact_sequence (exact_sequence (exact_node_name bindings default on inside_position (heads_position in_qname refl refl)) (λ _. exact_optional_position)) (λ _. exact_optional_test))
 
 -- ---- a step that was read, or broke off, where nothing can follow it: nothing else is there
-pub read_covers : {faults : Faults FaultKind} {A : Type 0} {r : Rule FaultKind A} {M X : Rest FaultKind} {text : List ℕ} {a : A} (c : ℕ) (x : List ℕ) → (i : IsRead faults r (λ _. M) text a (c ∷ x)) → Heads (Is 47) M → (c ≡ 47 → ⊥) → ((u y : List ℕ) → i.used ≡ u ++ y → X.Meets Begin u ⊎ (u ≡ [])) → Covers faults text (ahead r (λ _. M)) X
+pub read_covers : {faults : FaultRanking FaultKind} {A : Type 0} {r : Rule FaultKind A} {M X : Rest FaultKind} {text : List ℕ} {a : A} (c : ℕ) (x : List ℕ) → (i : IsRead faults r (λ _. M) text a (c ∷ x)) → Heads (Is 47) M → (c ≡ 47 → ⊥) → ((u y : List ℕ) → i.used ≡ u ++ y → X.Meets Begin u ⊎ (u ≡ [])) → Covers faults text (ahead r (λ _. M)) X
 read_covers {faults} {A} {r} {M} {X} {text} {a} c x i h no_slash fronts = record {
   events = λ e v w j m. ⊎_elim (λ p. by_front e v w j p) (λ l. by_rest e v w j l.0 l.1 l.2) (i.settled e v w j m);
   whole = λ m. by_whole m.0 m.1.front m.1.back m.1.joined m.1.front_is m.1.back_is;

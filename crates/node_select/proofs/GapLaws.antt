@@ -3,7 +3,7 @@ use Rattle.std.proofs.Common.{◌≡◌, ℕ, zero, suc, ◌+◌, ◌<◌, ◌�
 use Rattle.std.proofs.lemmas.Bool.{cases_order, cases_lt}
 use Rattle.std.proofs.lemmas.Option.{same_Some}
 use Rattle.node_select.specs.StepSelection.{IsAtPosition, Matches}
-use Rattle.node_select.specs.InsertionPoints.{IsFree, IsLawfulInsertion}
+use Rattle.node_select.specs.InsertionPoints.{AllowsInsertion, IsLawfulInsertion}
 use Rattle.node_select.proofs.ListEdits.{get-insert_before, get-insert_at, get-insert_behind, take-insert_before, count-insert_behind, count_up_to, count_past, one_more}
 
 -- a child before the gap matches as before
@@ -61,7 +61,7 @@ match_new named tested position xs gap e le n t counted = record {
 }
 
 -- then no other child matches, if none is in its way
-alone : {A : Type 0} (named tested : A → Bool) (position : Option ℕ) (xs : List A) (gap : ℕ) (e : A) → gap ≤ length xs → IsTrue (named e) → IsAtPosition position (count_by named (take gap xs)) → IsFree named tested position xs → (i : ℕ) → Matches named tested position (insert xs gap e) i → (i ≡ gap) ⊎ ((i < gap) ⊎ (gap < i)) → i ≡ gap
+alone : {A : Type 0} (named tested : A → Bool) (position : Option ℕ) (xs : List A) (gap : ℕ) (e : A) → gap ≤ length xs → IsTrue (named e) → IsAtPosition position (count_by named (take gap xs)) → AllowsInsertion named tested position xs → (i : ℕ) → Matches named tested position (insert xs gap e) i → (i ≡ gap) ⊎ ((i < gap) ⊎ (gap < i)) → i ≡ gap
 alone named tested position xs gap e le n counted free i m (inl same) = same
 alone named tested None xs gap e le n counted free i m (inr (inl lt)) = absurd (free i ((match_before named tested None xs gap e i le lt).0 m))
 alone named tested (Some p) xs gap e le n counted free i m (inr (inl lt)) =
@@ -78,7 +78,7 @@ alone named tested (Some p) xs gap e le n counted free (suc i) m (inr (inr lt)) 
     let at : count_by named (take (suc i) (insert xs gap e)) + 1 ≡ p = m.at_position in
     absurd (omega arith)
 
-pub lawful_from : {A : Type 0} (named tested : A → Bool) (position : Option ℕ) (xs : List A) (e : A) (gap : ℕ) → gap ≤ length xs → IsTrue (named e) → IsTrue (tested e) → IsAtPosition position (count_by named (take gap xs)) → IsFree named tested position xs → IsLawfulInsertion named tested position xs e gap
+pub lawful_from : {A : Type 0} (named tested : A → Bool) (position : Option ℕ) (xs : List A) (e : A) (gap : ℕ) → gap ≤ length xs → IsTrue (named e) → IsTrue (tested e) → IsAtPosition position (count_by named (take gap xs)) → AllowsInsertion named tested position xs → IsLawfulInsertion named tested position xs e gap
 lawful_from named tested position xs e gap le n t counted free = record {
   this = match_new named tested position xs gap e le n t counted;
   alone = λ i m. alone named tested position xs gap e le n counted free i m (cases_order i gap);
@@ -100,21 +100,21 @@ in_the_way : {A : Type 0} (named tested : A → Bool) (xs : List A) (e : A) (gap
 in_the_way named tested xs e gap le l i m (inl lt) = let same = l.alone i ((match_before named tested None xs gap e i le lt).1 m) in omega arith
 in_the_way named tested xs e gap le l i m (inr from) = let same = l.alone (suc i) ((match_behind_free named tested xs gap e i le from).1 m) in omega arith
 
-pub lawful_free : {A : Type 0} (named tested : A → Bool) (position : Option ℕ) (xs : List A) (e : A) (gap : ℕ) → gap ≤ length xs → IsLawfulInsertion named tested position xs e gap → IsFree named tested position xs
+pub lawful_free : {A : Type 0} (named tested : A → Bool) (position : Option ℕ) (xs : List A) (e : A) (gap : ℕ) → gap ≤ length xs → IsLawfulInsertion named tested position xs e gap → AllowsInsertion named tested position xs
 lawful_free named tested None xs e gap le l = λ i m. in_the_way named tested xs e gap le l i m (cases_lt i gap)
 lawful_free named tested (Some n) xs e gap le l = tt
 
 -- a gap is lawful exactly when the new child passes both tests, the number before the gap fits,
 -- and nothing is in the way
 pub lawful_is : {A : Type 0} (named tested : A → Bool) (position : Option ℕ) (xs : List A) (e : A) (gap : ℕ) → gap ≤ length xs
-    → IsLawfulInsertion named tested position xs e gap ↔ (IsTrue (named e) × IsTrue (tested e) × IsAtPosition position (count_by named (take gap xs)) × IsFree named tested position xs)
+    → IsLawfulInsertion named tested position xs e gap ↔ (IsTrue (named e) × IsTrue (tested e) × IsAtPosition position (count_by named (take gap xs)) × AllowsInsertion named tested position xs)
 lawful_is named tested position xs e gap le = (
   λ l. (lawful_named named tested position xs e gap le l, lawful_tested named tested position xs e gap le l, lawful_position named tested position xs e gap le l, lawful_free named tested position xs e gap le l),
   λ h. lawful_from named tested position xs e gap le h.0 h.1 h.2 h.3,
 )
 
 -- where only the number before the gap is still open
-pub lawful_by_count : {A : Type 0} (named tested : A → Bool) (position : Option ℕ) (xs : List A) (e : A) (gap before : ℕ) → gap ≤ length xs → IsTrue (named e) → IsTrue (tested e) → IsFree named tested position xs → before ≡ count_by named (take gap xs) → IsAtPosition position before ↔ IsLawfulInsertion named tested position xs e gap
+pub lawful_by_count : {A : Type 0} (named tested : A → Bool) (position : Option ℕ) (xs : List A) (e : A) (gap before : ℕ) → gap ≤ length xs → IsTrue (named e) → IsTrue (tested e) → AllowsInsertion named tested position xs → before ≡ count_by named (take gap xs) → IsAtPosition position before ↔ IsLawfulInsertion named tested position xs e gap
 lawful_by_count named tested position xs e gap before le n t free same = (
   λ h. lawful_from named tested position xs e gap le n t (subst (λ k. IsAtPosition position k) same h) free,
   λ l. subst (λ k. IsAtPosition position k) (sym same) (lawful_position named tested position xs e gap le l),

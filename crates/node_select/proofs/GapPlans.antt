@@ -1,7 +1,7 @@
 -- The plan over the gaps: gap by gap, computed, and with equivalent properties.
 use Rattle.std.proofs.Common.{◌≡◌, ℕ, zero, suc, ◌+◌, ◌<◌, inl, inr, ◌↔◌, true, false, Bool, Result, Ok, Err, refl, sym, ap, ◌∙◌, subst, IsTrue, arith, add-one}
 use Rattle.std.proofs.lemmas.Bool.{cases_lt}
-use Rattle.node_select.specs.InsertionPoints.{IsLastPlace, IsInsertionPlan, plan_with, plan_without, plan_of}
+use Rattle.node_select.specs.InsertionPoints.{IsLastValidGap, IsInsertionPlan, plan_with_gap, plan_with_invalid_gap, insertion_plan}
 
 -- what holds of no gap below n, and not of n, holds of no gap up to n
 up_to : (P : ℕ → Type 0) (n : ℕ) → ((k : ℕ) → k < n → P k → ⊥) → (P n → ⊥) → (k : ℕ) → k < n + 1 → P k → ⊥
@@ -10,7 +10,7 @@ up_to P n below here k lt p = elim (cases_lt k n) [ inl under ↦ below k under 
 first_and_second : (L V : ℕ → Type 0) (n : ℕ) → ((k : ℕ) → k < n → L k → V k → ⊥) → (L n → V n → ⊥) → (k : ℕ) → k < n + 1 → L k → V k → ⊥
 first_and_second L V n below here k lt l v = up_to (λ i. L i × V i) n (λ i under p. below i under p.0 p.1) (λ p. here p.0 p.1) k lt (l, v)
 
-not_after : (L V : ℕ → Type 0) (n gap : ℕ) → IsLastPlace L V n gap → (L n → V n → ⊥) → IsLastPlace L V (n + 1) gap
+not_after : (L V : ℕ → Type 0) (n gap : ℕ) → IsLastValidGap L V n gap → (L n → V n → ⊥) → IsLastValidGap L V (n + 1) gap
 not_after L V n gap h here = record {
   within = let lt = h.within in omega arith;
   is_lawful = h.is_lawful;
@@ -33,7 +33,7 @@ skipped unlawful invalid L V n (Err e) (inr h) no_law = inr (
 )
 
 -- one that is lawful and not valid
-refused : {E : Type 0} (unlawful invalid : E) (L V : ℕ → Type 0) (n : ℕ) (r : Result ℕ E) → IsInsertionPlan unlawful invalid L V n r → L n → (V n → ⊥) → IsInsertionPlan unlawful invalid L V (n + 1) (plan_without invalid r)
+refused : {E : Type 0} (unlawful invalid : E) (L V : ℕ → Type 0) (n : ℕ) (r : Result ℕ E) → IsInsertionPlan unlawful invalid L V n r → L n → (V n → ⊥) → IsInsertionPlan unlawful invalid L V (n + 1) (plan_with_invalid_gap invalid r)
 refused unlawful invalid L V n (Ok gap) h l bad = not_after L V n gap h (λ _ v. bad v)
 refused unlawful invalid L V n (Err e) (inl h) l bad = inr (
   refl,
@@ -62,7 +62,7 @@ not_true : IsTrue false → ⊥
 not_true h = cc
 
 -- one more gap, with tests of whether it is lawful and valid
-pub plan_more : {E : Type 0} (unlawful invalid : E) (L V : ℕ → Type 0) (n : ℕ) (r : Result ℕ E) (lawful valid : Bool) → IsInsertionPlan unlawful invalid L V n r → (IsTrue lawful ↔ L n) → (IsTrue valid ↔ V n) → IsInsertionPlan unlawful invalid L V (n + 1) (plan_with invalid r n lawful valid)
+pub plan_more : {E : Type 0} (unlawful invalid : E) (L V : ℕ → Type 0) (n : ℕ) (r : Result ℕ E) (lawful valid : Bool) → IsInsertionPlan unlawful invalid L V n r → (IsTrue lawful ↔ L n) → (IsTrue valid ↔ V n) → IsInsertionPlan unlawful invalid L V (n + 1) (plan_with_gap invalid r n lawful valid)
 plan_more unlawful invalid L V n r false valid h l v = skipped unlawful invalid L V n r h (λ x. not_true (l.1 x))
 plan_more unlawful invalid L V n r true false h l v = refused unlawful invalid L V n r h (l.0 refl) (λ x. not_true (v.1 x))
 plan_more unlawful invalid L V n r true true h l v = taken unlawful invalid L V n (l.0 refl) (v.0 refl)
@@ -71,10 +71,10 @@ pub plan_none : {E : Type 0} (unlawful invalid : E) (L V : ℕ → Type 0) → I
 plan_none unlawful invalid L V = inl (refl, record { none = λ k lt _. omega arith })
 
 -- there is one plan
-last_is_one : (L V : ℕ → Type 0) (n i j : ℕ) → IsLastPlace L V n i → IsLastPlace L V n j → i ≡ j
+last_is_one : (L V : ℕ → Type 0) (n i j : ℕ) → IsLastValidGap L V n i → IsLastValidGap L V n j → i ≡ j
 last_is_one L V n i j p q = omega (arith, p.last j q.within q.is_lawful q.is_valid, q.last i p.within p.is_lawful p.is_valid)
 
-not_both : {E : Type 0} (unlawful invalid : E) (L V : ℕ → Type 0) (n i : ℕ) (e : E) → IsLastPlace L V n i → IsInsertionPlan unlawful invalid L V n (Err e) → ⊥
+not_both : {E : Type 0} (unlawful invalid : E) (L V : ℕ → Type 0) (n i : ℕ) (e : E) → IsLastValidGap L V n i → IsInsertionPlan unlawful invalid L V n (Err e) → ⊥
 not_both unlawful invalid L V n i e p (inl q) = q.1.none i p.within p.is_lawful
 not_both unlawful invalid L V n i e p (inr q) = q.1.none i p.within p.is_lawful p.is_valid
 
@@ -88,14 +88,14 @@ one_plan unlawful invalid L V n (Err e) (Err f) (inr p) (inl q) = absurd (q.1.no
 one_plan unlawful invalid L V n (Err e) (Err f) (inr p) (inr q) = ap Err (p.0 ∙ sym q.0)
 
 -- the computed plan is the plan
-pub plan_of_is : {E : Type 0} (unlawful invalid : E) (lawful valid : ℕ → Bool) (n : ℕ) → IsInsertionPlan unlawful invalid (λ j. IsTrue (lawful j)) (λ j. IsTrue (valid j)) n (plan_of unlawful invalid lawful valid n)
+pub plan_of_is : {E : Type 0} (unlawful invalid : E) (lawful valid : ℕ → Bool) (n : ℕ) → IsInsertionPlan unlawful invalid (λ j. IsTrue (lawful j)) (λ j. IsTrue (valid j)) n (insertion_plan unlawful invalid lawful valid n)
 plan_of_is unlawful invalid lawful valid zero = plan_none unlawful invalid (λ j. IsTrue (lawful j)) (λ j. IsTrue (valid j))
 plan_of_is unlawful invalid lawful valid (suc n) =
     let L : ℕ → Type 0 = λ j. IsTrue (lawful j) in
     let V : ℕ → Type 0 = λ j. IsTrue (valid j) in
-    let next = plan_with invalid (plan_of unlawful invalid lawful valid n) n (lawful n) (valid n) in
+    let next = plan_with_gap invalid (insertion_plan unlawful invalid lawful valid n) n (lawful n) (valid n) in
     subst (λ k. IsInsertionPlan unlawful invalid L V k next) (add-one n)
-    (plan_more unlawful invalid L V n (plan_of unlawful invalid lawful valid n) (lawful n) (valid n) (plan_of_is unlawful invalid lawful valid n) (λ h. h, λ h. h) (λ h. h, λ h. h))
+    (plan_more unlawful invalid L V n (insertion_plan unlawful invalid lawful valid n) (lawful n) (valid n) (plan_of_is unlawful invalid lawful valid n) (λ h. h, λ h. h) (λ h. h, λ h. h))
 
 -- equivalent properties have the same plan
 pub plan_alike : {E : Type 0} (unlawful invalid : E) (L L' V V' : ℕ → Type 0) (n : ℕ) (r : Result ℕ E) → ((j : ℕ) → j < n → L j ↔ L' j) → ((j : ℕ) → j < n → V j ↔ V' j) → IsInsertionPlan unlawful invalid L V n r → IsInsertionPlan unlawful invalid L' V' n r

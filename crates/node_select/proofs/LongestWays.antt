@@ -7,7 +7,7 @@ use Rattle.xml_tree.specs.TreeScopes.{inside}
 use Rattle.node_select.specs.declared.descent.Reached.{Reached}
 use Rattle.node_select.specs.declared.selector.Step.{Step}
 use Rattle.node_select.specs.inner.LongestMatches.{ReachesBelow}
-use Rattle.node_select.specs.Selection.{is_named, is_tested, selected_child, selected_among, depth_among, longest_in, IsLongestMatch, SelectsPath}
+use Rattle.node_select.specs.Selection.{is_named, is_tested, selected_child, selected_path_among, matched_depth, longest_match_in, IsLongestMatch, SelectsPath}
 use Rattle.node_select.proofs.ReachLemmas.{among_next, depth_next, longer, longest_is, path_is, sole_selected}
 
 -- one step leads to a child, and the other steps on from there
@@ -16,9 +16,9 @@ pub goes_on : (c : List (List Decl)) (child_elements : List Tree) (s : Step) (st
 goes_on c child_elements s steps base i child_element below reached one there b counted at = record {
   counted = counted ∙ ap suc b.counted ∙ sym (depth_next c child_elements s steps i child_element one there);
   leads =
-      ap (λ n. option_map (λ q. base ++ q) (selected_among c child_elements (take n (s ∷ steps)))) counted
+      ap (λ n. option_map (λ q. base ++ q) (selected_path_among c child_elements (take n (s ∷ steps)))) counted
       ∙ ap (option_map (λ q. base ++ q)) (among_next c child_elements s (take below.steps steps) i child_element one there)
-      ∙ sym (longer base i (selected_among (inside c child_element) (child_elements_of child_element) (take below.steps steps)))
+      ∙ sym (longer base i (selected_path_among (inside c child_element) (child_elements_of child_element) (take below.steps steps)))
       ∙ b.leads
       ∙ ap (λ (p : List ℕ). Some p) (sym at);
 }
@@ -33,11 +33,11 @@ same_path (Some q) p h = h
 pub from_root : (s : Step) (steps : List Step) (root : Tree) (below : Reached) → IsTrue (matches (is_named [] s) (is_tested [] s) s.position (root ∷ []) 0) → ReachesBelow (root.decls ∷ []) (child_elements_of root) steps [] below → SelectsPath (s ∷ take below.steps steps) root below.path
 from_root s steps root below m b = (path_is (s ∷ take below.steps steps) root below.path).0 (rw m (same_path _ _ b.leads))
 
-pub longest_next : (s : Step) (steps : List Step) (root : Tree) → IsTrue (matches (is_named [] s) (is_tested [] s) s.position (root ∷ []) 0) → longest_in (s ∷ steps) root ≡ suc (depth_among (root.decls ∷ []) (child_elements_of root) steps)
+pub longest_next : (s : Step) (steps : List Step) (root : Tree) → IsTrue (matches (is_named [] s) (is_tested [] s) s.position (root ∷ []) 0) → longest_match_in (s ∷ steps) root ≡ suc (matched_depth (root.decls ∷ []) (child_elements_of root) steps)
 longest_next s steps root m = depth_next [] (root ∷ []) s steps 0 root (sole_selected (is_named [] s) (is_tested [] s) s.position root ∙ ap (λ b. cond b (Some 0) None) m) refl
 
 -- the computed number of steps is the greatest
-pub most : (steps : List Step) (root : Tree) (n : ℕ) → n ≡ longest_in steps root → IsLongestMatch steps root n
+pub most : (steps : List Step) (root : Tree) (n : ℕ) → n ≡ longest_match_in steps root → IsLongestMatch steps root n
 most steps root n is = subst (λ (k : ℕ). IsLongestMatch steps root k) (sym is) (longest_is steps root)
 
 -- ---- as the code goes

@@ -3,7 +3,7 @@
 use Rattle.std.proofs.Common.{◌≡◌, ℕ, ◌+◌, ◌<◌, inl, inr, ◌↔◌, Bool, true, false, Option, Some, None, ap, arith, is_some, List, length, subst}
 use Rattle.std.proofs.lemmas.Bool.{cases_lt}
 use Rattle.std.proofs.lemmas.Option.{same_Some, none-some, slice_get_within}
-use Rattle.node_select.specs.StepSelection.{Matches, Selects, selected}
+use Rattle.node_select.specs.StepSelection.{Matches, Selects, selected_number}
 use Rattle.node_select.proofs.SelectionAgreement.{answer_is}
 
 -- below n no number has the property, or this one alone
@@ -22,7 +22,7 @@ only_first P n None none h here = (omega arith, here, λ k lt p. elim (cases_lt 
 only_first P n (Some f) none h here = cc
 
 -- at the end the only number is the selected one
-pub only_is_selected : {A : Type 0} (named tested : A → Bool) (position : Option ℕ) (child_elements : List A) (n : ℕ) (found : Option ℕ) → n ≡ length child_elements → OnlyBelow (Matches named tested position child_elements) n found → found ≡ selected named tested position child_elements
+pub only_is_selected : {A : Type 0} (named tested : A → Bool) (position : Option ℕ) (child_elements : List A) (n : ℕ) (found : Option ℕ) → n ≡ length child_elements → OnlyBelow (Matches named tested position child_elements) n found → found ≡ selected_number named tested position child_elements
 only_is_selected named tested position child_elements n found end only = answer_is named tested position child_elements found (by found only)
   where
     by : (o : Option ℕ) → OnlyBelow (Matches named tested position child_elements) n o → (i : ℕ) → (o ≡ Some i) ↔ Selects named tested position child_elements i
@@ -33,7 +33,7 @@ only_is_selected named tested position child_elements n found end only = answer_
     )
 
 -- where a second number matches, none is selected
-pub second_is_none : {A : Type 0} (named tested : A → Bool) (position : Option ℕ) (child_elements : List A) (n : ℕ) (found : Option ℕ) → is_some found ≡ true → OnlyBelow (Matches named tested position child_elements) n found → Matches named tested position child_elements n → None ≡ selected named tested position child_elements
+pub second_is_none : {A : Type 0} (named tested : A → Bool) (position : Option ℕ) (child_elements : List A) (n : ℕ) (found : Option ℕ) → is_some found ≡ true → OnlyBelow (Matches named tested position child_elements) n found → Matches named tested position child_elements n → None ≡ selected_number named tested position child_elements
 second_is_none named tested position child_elements n None some only m = cc
 second_is_none named tested position child_elements n (Some f) some only m = answer_is named tested position child_elements None (λ i. (
   λ e. absurd (none-some i e),

@@ -1,13 +1,13 @@
 -- What steps select, as a relation and computed, and how far first steps lead.
 use Rattle.std.proofs.Common.{◌≡◌, ◌↔◌, ℕ, zero, suc, ◌<◌, ◌≤◌, Bool, true, false, cond, List, [], ◌∷◌, ◌++◌, length, take, Option, None, Some, slice_get, option_map, option_and_then, refl, sym, ap, ◌∙◌, subst, arith, append_assoc}
 use Rattle.std.proofs.lemmas.Option.{same_Some, none-some}
-use Rattle.node_select.specs.StepSelection.{Matches, Selects, matches, selected, only_item}
+use Rattle.node_select.specs.StepSelection.{Matches, Selects, matches, selected_number, only_item}
 use Rattle.node_select.proofs.SelectionAgreement.{matches_is, selected_is}
 use Rattle.xml_tree.specs.Tree.{Tree, child_elements_of}
 use Rattle.xml_names.specs.declared.names.Decl.{Decl}
 use Rattle.xml_tree.specs.TreeScopes.{inside}
 use Rattle.node_select.specs.declared.selector.Step.{Step}
-use Rattle.node_select.specs.Selection.{is_named, is_tested, SelectsChild, SelectsAmong, SelectsPath, IsLongestMatch, selected_child, selected_among, selected_in, deeper, depth_among, longest_in}
+use Rattle.node_select.specs.Selection.{is_named, is_tested, SelectsChild, SelectsAmong, SelectsPath, IsLongestMatch, selected_child, selected_path_among, selected_element_path, one_step_deeper, matched_depth, longest_match_in}
 
 -- ---- some children and one step
 -- the two steps that a path came from
@@ -25,16 +25,16 @@ inner None g q h = cc
 inner (Some child_element) g q h = (child_element, refl, h)
 
 -- the relation and the computed path agree
-pub among_to : (steps : List Step) (c : List (List Decl)) (child_elements : List Tree) (p : List ℕ) → selected_among c child_elements steps ≡ Some p → SelectsAmong c child_elements steps p
+pub among_to : (steps : List Step) (c : List (List Decl)) (child_elements : List Tree) (p : List ℕ) → selected_path_among c child_elements steps ≡ Some p → SelectsAmong c child_elements steps p
 among_to [] c child_elements [] h = tt
 among_to [] c child_elements (i ∷ p) h = cc
 among_to (s ∷ steps) c child_elements p h =
-    let r = two (selected_child c s child_elements) (λ i. option_and_then (λ child_element. selected_among (inside c child_element) (child_elements_of child_element) steps) (slice_get child_elements i)) p h in
-    let k = inner (slice_get child_elements r.0) (λ child_element. selected_among (inside c child_element) (child_elements_of child_element) steps) r.1 r.3 in
+    let r = two (selected_child c s child_elements) (λ i. option_and_then (λ child_element. selected_path_among (inside c child_element) (child_elements_of child_element) steps) (slice_get child_elements i)) p h in
+    let k = inner (slice_get child_elements r.0) (λ child_element. selected_path_among (inside c child_element) (child_elements_of child_element) steps) r.1 r.3 in
     let one : SelectsChild c s child_elements r.0 = (selected_is (is_named c s) (is_tested c s) s.position child_elements r.0).0 r.2 in
     subst (λ q. SelectsAmong c child_elements (s ∷ steps) q) (sym r.4) (one, (k.0, k.1, among_to steps (inside c k.0) (child_elements_of k.0) r.1 k.2))
 
-pub among_from : (steps : List Step) (c : List (List Decl)) (child_elements : List Tree) (p : List ℕ) → SelectsAmong c child_elements steps p → selected_among c child_elements steps ≡ Some p
+pub among_from : (steps : List Step) (c : List (List Decl)) (child_elements : List Tree) (p : List ℕ) → SelectsAmong c child_elements steps p → selected_path_among c child_elements steps ≡ Some p
 among_from [] c child_elements [] h = refl
 among_from [] c child_elements (i ∷ p) h = absurd h
 among_from (s ∷ steps) c child_elements [] h = absurd h
@@ -53,7 +53,7 @@ sole_selects : {A : Type 0} (named tested : A → Bool) (position : Option ℕ) 
 sole_selects named tested position x m = record { this = m; alone = λ k m'. only_zero x m'.child_element k m'.there }
 
 path_by : (s : Step) (steps : List Step) (root : Tree) (p : List ℕ) (b : Bool) → matches (is_named [] s) (is_tested [] s) s.position (root ∷ []) 0 ≡ b
-    → (cond b (selected_among (root.decls ∷ []) (child_elements_of root) steps) None ≡ Some p) ↔ SelectsPath (s ∷ steps) root p
+    → (cond b (selected_path_among (root.decls ∷ []) (child_elements_of root) steps) None ≡ Some p) ↔ SelectsPath (s ∷ steps) root p
 path_by s steps root p true e = (
   λ h. (sole_selects (is_named [] s) (is_tested [] s) s.position root ((matches_is (is_named [] s) (is_tested [] s) s.position (root ∷ []) 0).0 e), (root, refl, among_to steps (root.decls ∷ []) (child_elements_of root) p h)),
   λ h. let k = h.1 in
@@ -65,17 +65,17 @@ path_by s steps root p false e = (
   λ h. let t = (matches_is (is_named [] s) (is_tested [] s) s.position (root ∷ []) 0).1 h.0.this in let z : true ≡ false = sym t ∙ e in cc,
 )
 
-pub path_is : (steps : List Step) (root : Tree) (p : List ℕ) → (selected_in steps root ≡ Some p) ↔ SelectsPath steps root p
+pub path_is : (steps : List Step) (root : Tree) (p : List ℕ) → (selected_element_path steps root ≡ Some p) ↔ SelectsPath steps root p
 path_is [] root p = (λ h. cc, λ h. absurd h)
 path_is (s ∷ steps) root p = path_by s steps root p (matches (is_named [] s) (is_tested [] s) s.position (root ∷ []) 0) refl
 
 -- ---- how far first steps lead
 
-pub depth_within : (steps : List Step) (c : List (List Decl)) (child_elements : List Tree) → depth_among c child_elements steps ≤ length steps
+pub depth_within : (steps : List Step) (c : List (List Decl)) (child_elements : List Tree) → matched_depth c child_elements steps ≤ length steps
 depth_within [] c child_elements = omega arith
 depth_within (s ∷ steps) c child_elements = by (option_and_then (slice_get child_elements) (selected_child c s child_elements)) (λ child_element. depth_within steps (inside c child_element) (child_elements_of child_element))
   where
-    by : (o : Option Tree) → ((child_element : Tree) → depth_among (inside c child_element) (child_elements_of child_element) steps ≤ length steps) → deeper (option_map (λ child_element. depth_among (inside c child_element) (child_elements_of child_element) steps) o) ≤ length (s ∷ steps)
+    by : (o : Option Tree) → ((child_element : Tree) → matched_depth (inside c child_element) (child_elements_of child_element) steps ≤ length steps) → one_step_deeper (option_map (λ child_element. matched_depth (inside c child_element) (child_elements_of child_element) steps) o) ≤ length (s ∷ steps)
     by None h = omega arith
     by (Some child_element) h = omega (arith, h child_element)
 
@@ -83,20 +83,20 @@ child_of : (o : Option ℕ) (child_elements : List Tree) (child_element : Tree) 
 child_of None child_elements child_element h = cc
 child_of (Some i) child_elements child_element h = (i, refl, h)
 
-pub depth_selects : (steps : List Step) (c : List (List Decl)) (child_elements : List Tree) → (p : List ℕ) × SelectsAmong c child_elements (take (depth_among c child_elements steps) steps) p
+pub depth_selects : (steps : List Step) (c : List (List Decl)) (child_elements : List Tree) → (p : List ℕ) × SelectsAmong c child_elements (take (matched_depth c child_elements steps) steps) p
 depth_selects [] c child_elements = ([], tt)
 depth_selects (s ∷ steps) c child_elements = by (option_and_then (slice_get child_elements) (selected_child c s child_elements)) refl (λ child_element. depth_selects steps (inside c child_element) (child_elements_of child_element))
   where
     by : (o : Option Tree) → option_and_then (slice_get child_elements) (selected_child c s child_elements) ≡ o
-        → ((child_element : Tree) → (p : List ℕ) × SelectsAmong (inside c child_element) (child_elements_of child_element) (take (depth_among (inside c child_element) (child_elements_of child_element) steps) steps) p)
-        → (p : List ℕ) × SelectsAmong c child_elements (take (deeper (option_map (λ child_element. depth_among (inside c child_element) (child_elements_of child_element) steps) o)) (s ∷ steps)) p
+        → ((child_element : Tree) → (p : List ℕ) × SelectsAmong (inside c child_element) (child_elements_of child_element) (take (matched_depth (inside c child_element) (child_elements_of child_element) steps) steps) p)
+        → (p : List ℕ) × SelectsAmong c child_elements (take (one_step_deeper (option_map (λ child_element. matched_depth (inside c child_element) (child_elements_of child_element) steps) o)) (s ∷ steps)) p
     by None e h = ([], tt)
     by (Some child_element) e h =
         let i = child_of (selected_child c s child_elements) child_elements child_element e in
         let rest = h child_element in
         (i.0 ∷ rest.0, ((selected_is (is_named c s) (is_tested c s) s.position child_elements i.0).0 i.1, (child_element, i.2, rest.1)))
 
-pub depth_longest : (steps : List Step) (c : List (List Decl)) (child_elements : List Tree) (j : ℕ) (p : List ℕ) → depth_among c child_elements steps < j → j ≤ length steps → SelectsAmong c child_elements (take j steps) p → ⊥
+pub depth_longest : (steps : List Step) (c : List (List Decl)) (child_elements : List Tree) (j : ℕ) (p : List ℕ) → matched_depth c child_elements steps < j → j ≤ length steps → SelectsAmong c child_elements (take j steps) p → ⊥
 depth_longest [] c child_elements j p lt le h = omega arith
 depth_longest (s ∷ steps) c child_elements zero p lt le h = omega arith
 depth_longest (s ∷ steps) c child_elements (suc j) [] lt le h = absurd h
@@ -104,7 +104,7 @@ depth_longest (s ∷ steps) c child_elements (suc j) (i ∷ p) lt le h =
     let k = h.1 in
     let one = (selected_is (is_named c s) (is_tested c s) s.position child_elements i).1 h.0 in
     let there : option_and_then (slice_get child_elements) (selected_child c s child_elements) ≡ Some k.0 = ap (option_and_then (slice_get child_elements)) one ∙ k.1 in
-    let deep : depth_among c child_elements (s ∷ steps) ≡ suc (depth_among (inside c k.0) (child_elements_of k.0) steps) = ap (λ o. deeper (option_map (λ child_element. depth_among (inside c child_element) (child_elements_of child_element) steps) o)) there in
+    let deep : matched_depth c child_elements (s ∷ steps) ≡ suc (matched_depth (inside c k.0) (child_elements_of k.0) steps) = ap (λ o. one_step_deeper (option_map (λ child_element. matched_depth (inside c child_element) (child_elements_of child_element) steps) o)) there in
     depth_longest steps (inside c k.0) (child_elements_of k.0) j p (omega arith) (omega arith) k.2
 
 from_root : (steps : List Step) (root : Tree) (p : List ℕ) → 0 < length steps → SelectsAmong [] (root ∷ []) steps p → (q : List ℕ) × SelectsPath steps root q
@@ -119,9 +119,9 @@ taken zero xs lt le = omega arith
 taken (suc k) [] lt le = absurd (omega arith)
 taken (suc k) (x ∷ xs) lt le = omega arith
 
-pub longest_is : (steps : List Step) (root : Tree) → IsLongestMatch steps root (longest_in steps root)
+pub longest_is : (steps : List Step) (root : Tree) → IsLongestMatch steps root (longest_match_in steps root)
 longest_is steps root =
-    let k = longest_in steps root in
+    let k = longest_match_in steps root in
     let within = depth_within steps [] (root ∷ []) in record {
       within = within;
       selects = λ lt. let d = depth_selects steps [] (root ∷ []) in from_root (take k steps) root d.0 (taken k steps lt within) d.1;
@@ -130,7 +130,7 @@ longest_is steps root =
 
 -- ---- as the code goes
 -- the one child of a list is selected where it matches
-pub sole_selected : {A : Type 0} (named tested : A → Bool) (position : Option ℕ) (x : A) → selected named tested position (x ∷ []) ≡ cond (matches named tested position (x ∷ []) 0) (Some 0) None
+pub sole_selected : {A : Type 0} (named tested : A → Bool) (position : Option ℕ) (x : A) → selected_number named tested position (x ∷ []) ≡ cond (matches named tested position (x ∷ []) 0) (Some 0) None
 sole_selected named tested position x = by (matches named tested position (x ∷ []) 0)
   where
     by : (b : Bool) → only_item (cond b (0 ∷ []) []) ≡ cond b (Some 0) None
@@ -143,7 +143,7 @@ longer path i None = refl
 longer path i (Some q) = ap Some (append_assoc path (i ∷ []) q)
 
 pub among_next : (c : List (List Decl)) (child_elements : List Tree) (s : Step) (steps : List Step) (i : ℕ) (child_element : Tree) → selected_child c s child_elements ≡ Some i → slice_get child_elements i ≡ Some child_element
-    → selected_among c child_elements (s ∷ steps) ≡ option_map (λ q. i ∷ q) (selected_among (inside c child_element) (child_elements_of child_element) steps)
+    → selected_path_among c child_elements (s ∷ steps) ≡ option_map (λ q. i ∷ q) (selected_path_among (inside c child_element) (child_elements_of child_element) steps)
 among_next c child_elements s steps i child_element one there = rw one (rw there refl)
 
 pub among_missing : (c : List (List Decl)) (child_elements : List Tree) (s : Step) (steps : List Step) (i : ℕ) → selected_child c s child_elements ≡ Some i → slice_get child_elements i ≡ None → ⊥
@@ -152,7 +152,7 @@ among_missing c child_elements s steps i one none =
     none-some r.this.child_element (sym none ∙ r.this.there)
 
 pub depth_next : (c : List (List Decl)) (child_elements : List Tree) (s : Step) (steps : List Step) (i : ℕ) (child_element : Tree) → selected_child c s child_elements ≡ Some i → slice_get child_elements i ≡ Some child_element
-    → depth_among c child_elements (s ∷ steps) ≡ suc (depth_among (inside c child_element) (child_elements_of child_element) steps)
+    → matched_depth c child_elements (s ∷ steps) ≡ suc (matched_depth (inside c child_element) (child_elements_of child_element) steps)
 depth_next c child_elements s steps i child_element one there = rw one (rw there refl)
 
 pub length-take-le : {A : Type 0} (n : ℕ) (xs : List A) → length (take n xs) ≤ n

@@ -2,7 +2,7 @@
 -- are selected alike.
 use Rattle.std.proofs.Common.{◌≡◌, ◌≢◌, ◌↔◌, ℕ, zero, suc, ◌+◌, ◌≤◌, ◌<◌, Bool, true, false, cond, ◌&&◌, List, [], ◌∷◌, take, map, length, count_by, Option, Some, None, refl, sym, ap, ◌∙◌, subst, arith, IsTrue, slice_get, eq-eqb, eqb-true}
 use Rattle.std.proofs.lemmas.Option.{same_Some, none-some, slice_get_within}
-use Rattle.node_select.specs.StepSelection.{IsAtPosition, Matches, Selects, AreAlike, is_at_position, child_matches, matches, passing, only_item, selected}
+use Rattle.node_select.specs.StepSelection.{IsAtPosition, Matches, Selects, HaveSameTestResults, is_at_position, child_matches, matches, passing_numbers, only_item, selected_number}
 use Rattle.node_select.proofs.ListEdits.{count-cons}
 
 pub one_selected : {A : Type 0} (named tested : A → Bool) (position : Option ℕ) (child_elements : List A) (i k : ℕ) → Selects named tested position child_elements i → Selects named tested position child_elements k → i ≡ k
@@ -38,19 +38,19 @@ next : (i m : ℕ) → i ≤ m → i ≢ m → suc i ≤ m
 next i m le ne = omega (arith, ne)
 
 module _ (p : ℕ → Bool) where
-  none_pass : (many i : ℕ) → ((m : ℕ) → i ≤ m → p m ≡ true → ⊥) → passing p i many ≡ []
+  none_pass : (many i : ℕ) → ((m : ℕ) → i ≤ m → p m ≡ true → ⊥) → passing_numbers p i many ≡ []
   none_pass zero i h = refl
   none_pass (suc many) i h = by (p i) refl (none_pass many (suc i) (λ m le. h m (omega arith)))
     where
-      by : (b : Bool) → p i ≡ b → passing p (suc i) many ≡ [] → passing p i (suc many) ≡ []
+      by : (b : Bool) → p i ≡ b → passing_numbers p (suc i) many ≡ [] → passing_numbers p i (suc many) ≡ []
       by true e rest = absurd (h i (omega arith) e)
       by false e rest = rw e rest
 
-  one_passes : (many i n : ℕ) → i ≤ n → n < i + many → p n ≡ true → ((m : ℕ) → p m ≡ true → m ≡ n) → passing p i many ≡ n ∷ []
+  one_passes : (many i n : ℕ) → i ≤ n → n < i + many → p n ≡ true → ((m : ℕ) → p m ≡ true → m ≡ n) → passing_numbers p i many ≡ n ∷ []
   one_passes zero i n le lt h one = absurd (omega arith)
   one_passes (suc many) i n le lt h one = by (p i) refl (λ from. one_passes many (suc i) n from (omega arith) h one)
     where
-      by : (b : Bool) → p i ≡ b → (suc i ≤ n → passing p (suc i) many ≡ n ∷ []) → passing p i (suc many) ≡ n ∷ []
+      by : (b : Bool) → p i ≡ b → (suc i ≤ n → passing_numbers p (suc i) many ≡ n ∷ []) → passing_numbers p i (suc many) ≡ n ∷ []
       by true e rest =
           let same : i ≡ n = one i e in
           rw e (ap (λ l. i ∷ l) (none_pass many (suc i) (λ m le' t. absurd (omega (arith, one m t)))) ∙ ap (λ k. k ∷ []) same)
@@ -58,27 +58,27 @@ module _ (p : ℕ → Bool) where
           let other : i ≢ n = λ s. let z : p i ≡ true = ap p s ∙ h in let w : true ≡ false = sym z ∙ e in cc in
           rw e (rest (next i n le other))
 
-  pass_none : (many i : ℕ) → passing p i many ≡ [] → (m : ℕ) → i ≤ m → m < i + many → p m ≡ true → ⊥
+  pass_none : (many i : ℕ) → passing_numbers p i many ≡ [] → (m : ℕ) → i ≤ m → m < i + many → p m ≡ true → ⊥
   pass_none zero i h m le lt t = omega arith
   pass_none (suc many) i h m le lt t = by (p i) refl (pass_none many (suc i))
     where
-      by : (b : Bool) → p i ≡ b → (passing p (suc i) many ≡ [] → (k : ℕ) → suc i ≤ k → k < suc i + many → p k ≡ true → ⊥) → ⊥
-      by true e rest = let z : i ∷ passing p (suc i) many ≡ [] = rw e at h in cc
+      by : (b : Bool) → p i ≡ b → (passing_numbers p (suc i) many ≡ [] → (k : ℕ) → suc i ≤ k → k < suc i + many → p k ≡ true → ⊥) → ⊥
+      by true e rest = let z : i ∷ passing_numbers p (suc i) many ≡ [] = rw e at h in cc
       by false e rest =
           let other : i ≢ m = λ s. let z : p i ≡ true = ap p s ∙ t in let w : true ≡ false = sym z ∙ e in cc in
           rest (rw e at h) m (next i m le other) (omega arith) t
 
-  pass_one : (many i n : ℕ) → passing p i many ≡ n ∷ [] → (p n ≡ true) × (n < i + many) × ((m : ℕ) → i ≤ m → m < i + many → p m ≡ true → m ≡ n)
+  pass_one : (many i n : ℕ) → passing_numbers p i many ≡ n ∷ [] → (p n ≡ true) × (n < i + many) × ((m : ℕ) → i ≤ m → m < i + many → p m ≡ true → m ≡ n)
   pass_one zero i n h = cc
   pass_one (suc many) i n h = by (p i) refl (pass_one many (suc i) n)
     where
-      by : (b : Bool) → p i ≡ b → (passing p (suc i) many ≡ n ∷ [] → (p n ≡ true) × (n < suc i + many) × ((m : ℕ) → suc i ≤ m → m < suc i + many → p m ≡ true → m ≡ n))
+      by : (b : Bool) → p i ≡ b → (passing_numbers p (suc i) many ≡ n ∷ [] → (p n ≡ true) × (n < suc i + many) × ((m : ℕ) → suc i ≤ m → m < suc i + many → p m ≡ true → m ≡ n))
           → (p n ≡ true) × (n < i + suc many) × ((m : ℕ) → i ≤ m → m < i + suc many → p m ≡ true → m ≡ n)
       by true e rest =
-          let z : i ∷ passing p (suc i) many ≡ n ∷ [] = rw e at h in let same : i ≡ n = cc in let none : passing p (suc i) many ≡ [] = cc in
+          let z : i ∷ passing_numbers p (suc i) many ≡ n ∷ [] = rw e at h in let same : i ≡ n = cc in let none : passing_numbers p (suc i) many ≡ [] = cc in
           (ap p (sym same) ∙ e, omega arith, λ m le lt t. alone m le lt t same none)
         where
-          alone : (m : ℕ) → i ≤ m → m < i + suc many → p m ≡ true → i ≡ n → passing p (suc i) many ≡ [] → m ≡ n
+          alone : (m : ℕ) → i ≤ m → m < i + suc many → p m ≡ true → i ≡ n → passing_numbers p (suc i) many ≡ [] → m ≡ n
           alone m le lt t same none = omega (arith, λ (from : suc i ≤ m). pass_none many (suc i) none m from (omega arith) t)
       by false e rest =
           let r = rest (rw e at h) in
@@ -90,11 +90,11 @@ only_is (i ∷ []) n h = cc
 only_is (i ∷ j ∷ is) n h = cc
 
 -- ---- the relation and the function
-pub selected_is : {A : Type 0} (named tested : A → Bool) (position : Option ℕ) (child_elements : List A) (i : ℕ) → (selected named tested position child_elements ≡ Some i) ↔ Selects named tested position child_elements i
+pub selected_is : {A : Type 0} (named tested : A → Bool) (position : Option ℕ) (child_elements : List A) (i : ℕ) → (selected_number named tested position child_elements ≡ Some i) ↔ Selects named tested position child_elements i
 selected_is named tested position child_elements i =
     let p : ℕ → Bool = matches named tested position child_elements in
     let is : (k : ℕ) → IsTrue (p k) ↔ Matches named tested position child_elements k = matches_is named tested position child_elements in (
-      λ h. let one = pass_one p (length child_elements) 0 i (only_is (passing p 0 (length child_elements)) i h) in record {
+      λ h. let one = pass_one p (length child_elements) 0 i (only_is (passing_numbers p 0 (length child_elements)) i h) in record {
         this = (is i).0 one.0;
         alone = λ k m. one.2 k (omega arith) (omega (arith, slice_get_within child_elements k m.child_element m.there)) ((is k).1 m);
       },
@@ -102,11 +102,11 @@ selected_is named tested position child_elements i =
     )
 
 -- a result that is some number exactly when that is selected is the computed one
-pub answer_is : {A : Type 0} (named tested : A → Bool) (position : Option ℕ) (child_elements : List A) (r : Option ℕ) → ((i : ℕ) → (r ≡ Some i) ↔ Selects named tested position child_elements i) → r ≡ selected named tested position child_elements
+pub answer_is : {A : Type 0} (named tested : A → Bool) (position : Option ℕ) (child_elements : List A) (r : Option ℕ) → ((i : ℕ) → (r ≡ Some i) ↔ Selects named tested position child_elements i) → r ≡ selected_number named tested position child_elements
 answer_is named tested position child_elements (Some i) h = sym ((selected_is named tested position child_elements i).1 ((h i).0 refl))
-answer_is named tested position child_elements None h = by (selected named tested position child_elements) refl
+answer_is named tested position child_elements None h = by (selected_number named tested position child_elements) refl
   where
-    by : (o : Option ℕ) → selected named tested position child_elements ≡ o → None ≡ o
+    by : (o : Option ℕ) → selected_number named tested position child_elements ≡ o → None ≡ o
     by None e = refl
     by (Some i) e = (h i).1 ((selected_is named tested position child_elements i).0 e)
 
@@ -131,7 +131,7 @@ partner p q (a ∷ xs) [] i x h there = cc
 partner p q (a ∷ xs) (b ∷ ys) zero x h there = (b, refl, ap p (sym (same_Some a x there)) ∙ (heads (p a) (q b) (map p xs) (map q ys) h).0)
 partner p q (a ∷ xs) (b ∷ ys) (suc i) x h there = partner p q xs ys i x (heads (p a) (q b) (map p xs) (map q ys) h).1 there
 
-pub alike_one_way : {A B : Type 0} (named tested : A → Bool) (named' tested' : B → Bool) (position : Option ℕ) (xs : List A) (ys : List B) (i : ℕ) → AreAlike named tested named' tested' xs ys → Matches named tested position xs i → Matches named' tested' position ys i
+pub alike_one_way : {A B : Type 0} (named tested : A → Bool) (named' tested' : B → Bool) (position : Option ℕ) (xs : List A) (ys : List B) (i : ℕ) → HaveSameTestResults named tested named' tested' xs ys → Matches named tested position xs i → Matches named' tested' position ys i
 alike_one_way named tested named' tested' position xs ys i a m =
     let n = partner named named' xs ys i m.child_element a.same_named m.there in
     let t = partner tested tested' xs ys i m.child_element a.same_tested m.there in
@@ -143,16 +143,16 @@ alike_one_way named tested named' tested' position xs ys i a m =
       is_tested = ap tested' (sym same) ∙ sym t.2 ∙ m.is_tested;
     }
 
-pub turned : {A B : Type 0} (named tested : A → Bool) (named' tested' : B → Bool) (xs : List A) (ys : List B) → AreAlike named tested named' tested' xs ys → AreAlike named' tested' named tested ys xs
+pub turned : {A B : Type 0} (named tested : A → Bool) (named' tested' : B → Bool) (xs : List A) (ys : List B) → HaveSameTestResults named tested named' tested' xs ys → HaveSameTestResults named' tested' named tested ys xs
 turned named tested named' tested' xs ys a = record { same_named = sym a.same_named; same_tested = sym a.same_tested }
 
-pub match_alike : {A B : Type 0} (named tested : A → Bool) (named' tested' : B → Bool) (position : Option ℕ) (xs : List A) (ys : List B) (i : ℕ) → AreAlike named tested named' tested' xs ys → Matches named tested position xs i ↔ Matches named' tested' position ys i
+pub match_alike : {A B : Type 0} (named tested : A → Bool) (named' tested' : B → Bool) (position : Option ℕ) (xs : List A) (ys : List B) (i : ℕ) → HaveSameTestResults named tested named' tested' xs ys → Matches named tested position xs i ↔ Matches named' tested' position ys i
 match_alike named tested named' tested' position xs ys i a = (
   alike_one_way named tested named' tested' position xs ys i a,
   alike_one_way named' tested' named tested position ys xs i (turned named tested named' tested' xs ys a),
 )
 
-pub select_alike : {A B : Type 0} (named tested : A → Bool) (named' tested' : B → Bool) (position : Option ℕ) (xs : List A) (ys : List B) (i : ℕ) → AreAlike named tested named' tested' xs ys → Selects named tested position xs i ↔ Selects named' tested' position ys i
+pub select_alike : {A B : Type 0} (named tested : A → Bool) (named' tested' : B → Bool) (position : Option ℕ) (xs : List A) (ys : List B) (i : ℕ) → HaveSameTestResults named tested named' tested' xs ys → Selects named tested position xs i ↔ Selects named' tested' position ys i
 select_alike named tested named' tested' position xs ys i a =
     let m = λ (k : ℕ). match_alike named tested named' tested' position xs ys k a in (
       λ s. record { this = (m i).0 s.this; alone = λ k x. s.alone k ((m k).1 x) },

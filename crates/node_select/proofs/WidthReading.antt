@@ -4,18 +4,18 @@ use Rattle.std.proofs.Common.{◌≡◌, ℕ, zero, suc, ◌+◌, ◌-◌, Bool,
 use Rattle.std.specs.Prelude.{◌&&◌, Option, None, Some, option_map, map}
 use Rattle.std.proofs.lemmas.List.{length-append}
 use Rattle.xml_grammar.specs.Rules.{Rule}
-use Rattle.xml_grammar.specs.TextReading.{Stop, Faulty, Reader, ◌>>=◌, read_sequence, read_valued}
-use Rattle.xml_grammar.specs.readers.Functions.{read_either, read_at_most, read_many, read_with_length, read_empty, read_judged, judgement, read_optional}
-use Rattle.xml_grammar.specs.Answers.{Faults}
+use Rattle.xml_grammar.specs.TextReading.{Stop, Faulty, Reader, ◌>>=◌, read_sequence, read_mapped}
+use Rattle.xml_grammar.specs.readers.RuleReaders.{read_either, read_at_most, read_many, read_with_length, read_empty, read_with_value_marks, value_or_fault, read_optional}
+use Rattle.xml_grammar.specs.ParseResults.{FaultRanking}
 use Rattle.xml_grammar.proofs.Exact.{Rest, Exact, Outcome}
 use Rattle.xml_names.specs.declared.names.Name.{Name}
 use Rattle.xml_names.specs.declared.names.Decl.{Decl}
 use Rattle.xml_tokens.specs.declared.fault_kind.FaultKind.{FaultKind}
 use Rattle.xml_tokens.specs.declared.fault_kind.FaultKind.TheVariants.{Unbound}
-use Rattle.xml_tokens.specs.Values.{written}
+use Rattle.xml_tokens.specs.Values.{qname_text}
 use Rattle.xml_tokens.specs.Tokens.{qname}
-use Rattle.node_select.specs.Names.{is_unbound}
-use Rattle.node_select.specs.readers.Raw.{first_of, unbound_at}
+use Rattle.node_select.specs.Names.{has_unbound_prefix}
+use Rattle.node_select.specs.readers.RawSelectors.{first_some, unbound_at}
 use Rattle.node_select.proofs.NameReading.{judge}
 use Rattle.node_select.proofs.JudgedNames.{qname_long}
 
@@ -34,7 +34,7 @@ drop_more zero m xs = let e : 0 + m ≡ m = omega arith in sym (ap (λ (k : ℕ)
 drop_more (suc n) m [] = drop_none m ∙ sym (drop_none (suc n + m))
 drop_more (suc n) m (c ∷ xs) = let e : suc n + m ≡ suc (n + m) = omega arith in drop_more n m xs ∙ sym (ap (λ (k : ℕ). drop k (c ∷ xs)) e)
 
-pub first_none : (a : Option ℕ) → first_of a None ≡ a
+pub first_none : (a : Option ℕ) → first_some a None ≡ a
 first_none None = refl
 first_none (Some n) = refl
 
@@ -83,33 +83,33 @@ module _ (on : Bool) (whole : List ℕ) where
   abbrev pub no_name : {A : Type 0} → ℕ → A → Option ℕ
   no_name n a = None
 
-  plain_by : {A : Type 0} (faults : Faults FaultKind) (r : Rule FaultKind A) (K : A → Rest FaultKind) (n : ℕ) (text : List ℕ) (out : Result (A × List ℕ) (Stop FaultKind)) → text ≡ drop n whole → Outcome faults r K text out → Agrees (λ a. a) no_name n text out out
+  plain_by : {A : Type 0} (faults : FaultRanking FaultKind) (r : Rule FaultKind A) (K : A → Rest FaultKind) (n : ℕ) (text : List ℕ) (out : Result (A × List ℕ) (Stop FaultKind)) → text ≡ drop n whole → Outcome faults r K text out → Agrees (λ a. a) no_name n text out out
   plain_by faults r K n text (Ok x) at h = (joined_place n text h.used x.1 at h.joined, refl)
   plain_by faults r K n text (Err e) at h = λ f. refl
 
-  pub plain : {A : Type 0} {faults : Faults FaultKind} {r : Rule FaultKind A} {K : A → Rest FaultKind} {p : Reader FaultKind A} → Exact faults r K p → Follows p p (λ a. a) no_name
+  pub plain : {A : Type 0} {faults : FaultRanking FaultKind} {r : Rule FaultKind A} {K : A → Rest FaultKind} {p : Reader FaultKind A} → Exact faults r K p → Follows p p (λ a. a) no_name
   plain {A} {faults} {r} {K} {p} exact = record { by = λ n text at. plain_by faults r K n text (p text) at (exact.by text) }
 
   -- ---- names
 
-  name_by : (bindings : List Decl) (n : ℕ) (text : List ℕ) (x : Name × List ℕ) (b : Bool) → is_unbound bindings x.0 ≡ b → text ≡ drop n whole → length text - length x.1 - length (written x.0) ≡ 0
-      → judgement text x (cond (b && on) (Some (Unbound, length (written x.0))) None) ≡ verdict (counted (cond b (Some n) None)) x.0 x.1
+  name_by : (bindings : List Decl) (n : ℕ) (text : List ℕ) (x : Name × List ℕ) (b : Bool) → has_unbound_prefix bindings x.0 ≡ b → text ≡ drop n whole → length text - length x.1 - length (qname_text x.0) ≡ 0
+      → value_or_fault text x (cond (b && on) (Some (Unbound, length (qname_text x.0))) None) ≡ verdict (counted (cond b (Some n) None)) x.0 x.1
   name_by bindings n text x false e at w = refl
   name_by bindings n text x true e at w = by on
     where
-      by : (y : Bool) → judgement text x (cond y (Some (Unbound, length (written x.0))) None) ≡ verdict (cond y (Some n) None) x.0 x.1
+      by : (y : Bool) → value_or_fault text x (cond y (Some (Unbound, length (qname_text x.0))) None) ≡ verdict (cond y (Some n) None) x.0 x.1
       by true = ap (λ (z : List ℕ). let r : Result (Name × List ℕ) (Stop FaultKind) = Err (Faulty Unbound z) in r) (ap (λ (k : ℕ). drop k text) w ∙ at)
       by false = refl
 
-  pub name : {faults : Faults FaultKind} {r : Rule FaultKind Name} {K : Rest FaultKind} {p : Reader FaultKind Name} (bindings : List Decl) → ((u : List ℕ) (n : Name) → r.Spells u n → qname.Spells u n) → Exact faults r (λ _. K) p
-      → Follows p (read_judged (judge bindings on) p) (λ a. a) (unbound_at bindings)
+  pub name : {faults : FaultRanking FaultKind} {r : Rule FaultKind Name} {K : Rest FaultKind} {p : Reader FaultKind Name} (bindings : List Decl) → ((u : List ℕ) (n : Name) → r.Spells u n → qname.Spells u n) → Exact faults r (λ _. K) p
+      → Follows p (read_with_value_marks (judge bindings on) p) (λ a. a) (unbound_at bindings)
   name {faults} {r} {K} {p} bindings named exact = record { by = λ n text at. by n text (p text) at (exact.by text) }
     where
       by : (n : ℕ) (text : List ℕ) (out : Result (Name × List ℕ) (Stop FaultKind)) → text ≡ drop n whole → Outcome faults r (λ _. K) text out
-          → Agrees (λ a. a) (unbound_at bindings) n text out (out >>= λ x. judgement text x (judge bindings on x.0))
+          → Agrees (λ a. a) (unbound_at bindings) n text out (out >>= λ x. value_or_fault text x (judge bindings on x.0))
       by n text (Ok x) at h =
           let long = qname_long h.used x.0 (named h.used x.0 h.spelled) in
-          (joined_place n text h.used x.1 at h.joined, name_by bindings n text x (is_unbound bindings x.0) refl at (omega (arith, ap length h.joined, length-append h.used x.1, long)))
+          (joined_place n text h.used x.1 at h.joined, name_by bindings n text x (has_unbound_prefix bindings x.0) refl at (omega (arith, ap length h.joined, length-append h.used x.1, long)))
       by n text (Err e) at h = λ f. refl
 
   -- ---- equal texts with other values
@@ -119,7 +119,7 @@ module _ (on : Bool) (whole : List ℕ) where
   told_so g (Some n) b rest = refl
 
   module _ {A B C D : Type 0} {p : Reader FaultKind A} {q : Reader FaultKind B} {f : A → B} {u : ℕ → A → Option ℕ} (h : Follows p q f u) where
-    pub valued : (g : A → C) (g' : B → D) (f' : C → D) (u' : ℕ → C → Option ℕ) → ((a : A) → g' (f a) ≡ f' (g a)) → ((n : ℕ) (a : A) → u n a ≡ u' n (g a)) → Follows (read_valued g p) (read_valued g' q) f' u'
+    pub valued : (g : A → C) (g' : B → D) (f' : C → D) (u' : ℕ → C → Option ℕ) → ((a : A) → g' (f a) ≡ f' (g a)) → ((n : ℕ) (a : A) → u n a ≡ u' n (g a)) → Follows (read_mapped g p) (read_mapped g' q) f' u'
     valued g g' f' u' values places = record { by = λ n text at. by n text (p text) (q text) (h.by n text at) }
       where
         by : (n : ℕ) (text : List ℕ) (out : Result (A × List ℕ) (Stop FaultKind)) (other : Result (B × List ℕ) (Stop FaultKind)) → Agrees f u n text out other
@@ -142,7 +142,7 @@ module _ (on : Bool) (whole : List ℕ) where
         by n text (Ok x) other e = e
         by n text (Err z) other e = e
 
-    pub left : {C : Type 0} (g : A → C) (f' : C → B) (u' : ℕ → C → Option ℕ) → ((a : A) → f a ≡ f' (g a)) → ((n : ℕ) (a : A) → u n a ≡ u' n (g a)) → Follows (read_valued g p) q f' u'
+    pub left : {C : Type 0} (g : A → C) (f' : C → B) (u' : ℕ → C → Option ℕ) → ((a : A) → f a ≡ f' (g a)) → ((n : ℕ) (a : A) → u n a ≡ u' n (g a)) → Follows (read_mapped g p) q f' u'
     left {C} g f' u' values places = record { by = λ n text at. by n text (p text) (q text) (h.by n text at) }
       where
         by : (n : ℕ) (text : List ℕ) (out : Result (A × List ℕ) (Stop FaultKind)) (other : Result (B × List ℕ) (Stop FaultKind)) → Agrees f u n text out other
@@ -151,7 +151,7 @@ module _ (on : Bool) (whole : List ℕ) where
             (s, e ∙ ap (λ (d : B). verdict (counted (u n x.0)) d x.1) (values x.0) ∙ ap (λ (o : Option ℕ). verdict (counted o) (f' (g x.0)) x.1) (places n x.0))
         by n text (Err z) other e = e
 
-    pub right : {C : Type 0} (g : B → C) (f' : A → C) → ((a : A) → g (f a) ≡ f' a) → Follows p (read_valued g q) f' u
+    pub right : {C : Type 0} (g : B → C) (f' : A → C) → ((a : A) → g (f a) ≡ f' a) → Follows p (read_mapped g q) f' u
     right {C} g f' values = record { by = λ n text at. by n text (p text) (q text) (h.by n text at) }
       where
         by : (n : ℕ) (text : List ℕ) (out : Result (A × List ℕ) (Stop FaultKind)) (other : Result (B × List ℕ) (Stop FaultKind)) → Agrees f u n text out other
@@ -192,7 +192,7 @@ module _ (on : Bool) (whole : List ℕ) where
 
   module _ {A B C D : Type 0} {p : Reader FaultKind A} {q : Reader FaultKind B} {f : A → B} {u : ℕ → A → Option ℕ} {p' : Reader FaultKind C} {q' : Reader FaultKind D} {f' : C → D} {u' : ℕ → C → Option ℕ}
       (h : Follows p q f u) (i : Follows p' q' f' u') (v : ℕ → A × C → Option ℕ)
-      (joins : (n w : ℕ) (text rest : List ℕ) (a : A) (c : C) → p text ≡ Ok (a, rest) → w + length rest ≡ length text → v n (a, c) ≡ first_of (u n a) (u' (n + w) c)) where
+      (joins : (n w : ℕ) (text rest : List ℕ) (a : A) (c : C) → p text ≡ Ok (a, rest) → w + length rest ≡ length text → v n (a, c) ≡ first_some (u n a) (u' (n + w) c)) where
     abbrev both : A × C → B × D
     both x = (f x.0, f' x.1)
 
@@ -210,11 +210,11 @@ module _ (on : Bool) (whole : List ℕ) where
     off None m e f = absurd cc
     off (Some k) m e f = let z : None ≡ Some m = sym (ap (λ (y : Bool). cond y (Some k) None) f) ∙ e in absurd cc
 
-    first_counts : (a b : Option ℕ) (m : ℕ) → counted a ≡ Some m → counted (first_of a b) ≡ Some m
+    first_counts : (a b : Option ℕ) (m : ℕ) → counted a ≡ Some m → counted (first_some a b) ≡ Some m
     first_counts None b m e = absurd cc
     first_counts (Some k) b m e = e
 
-    next_counts : (a b : Option ℕ) → counted a ≡ None → counted (first_of a b) ≡ counted b
+    next_counts : (a b : Option ℕ) → counted a ≡ None → counted (first_some a b) ≡ counted b
     next_counts None b e = refl
     next_counts (Some k) None e = e
     next_counts (Some k) (Some l) e = by on e
@@ -258,9 +258,9 @@ module _ (on : Bool) (whole : List ℕ) where
   -- ---- repetitions
 
   module _ {A B : Type 0} {p : Reader FaultKind A} {q : Reader FaultKind B} {f : A → B} {u : ℕ → A → Option ℕ} (h : Follows p q f u) (test : List ℕ → Bool) (v : ℕ → List A → Option ℕ) (none : (n : ℕ) → v n [] ≡ None)
-      (joins : (n w : ℕ) (text rest : List ℕ) (a : A) (others : List A) → p text ≡ Ok (a, rest) → w + length rest ≡ length text → v n (a ∷ others) ≡ first_of (u n a) (v (n + w) others)) where
+      (joins : (n w : ℕ) (text rest : List ℕ) (a : A) (others : List A) → p text ≡ Ok (a, rest) → w + length rest ≡ length text → v n (a ∷ others) ≡ first_some (u n a) (v (n + w) others)) where
     abbrev again : {C : Type 0} → Reader FaultKind C → ℕ → Reader FaultKind (List C)
-    again r k = read_either test (read_valued (λ x. x.0 ∷ x.1) (read_sequence r (λ _. read_at_most test r k))) (read_empty [])
+    again r k = read_either test (read_mapped (λ x. x.0 ∷ x.1) (read_sequence r (λ _. read_at_most test r k))) (read_empty [])
 
     flat : {C : Type 0} (r : Reader FaultKind C) (k : ℕ) (b : Bool) (text : List ℕ) (out : Result (C × List ℕ) (Stop FaultKind))
         → cond b (out >>= λ x. read_at_most test r k x.1 >>= λ y. let z : Result (List C × List ℕ) (Stop FaultKind) = Ok (x.0 ∷ y.0, y.1) in z) (Ok ([], text))

@@ -3,8 +3,8 @@ use Rattle.std.specs.Prelude.{◌≡◌, ℕ, suc, ◌<◌, ◌≤◌, nat_lt, B
 use Rattle.std.specs.Prelude.{slice_get, Option, None, Some}
 
 -- the number of a child after another was inserted into the gap
-abbrev pub shifted : ℕ → ℕ → ℕ
-shifted gap i = cond (nat_lt i gap) i (suc i)
+abbrev pub number_after_insertion : ℕ → ℕ → ℕ
+number_after_insertion gap i = cond (nat_lt i gap) i (suc i)
 
 -- a child that the step passes over and doesn't count, at any position
 abbrev pub IsPassedOver : {A : Type 0} → (A → Bool) → (A → Bool) → Option ℕ → A → Type 0

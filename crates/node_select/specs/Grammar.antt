@@ -19,14 +19,16 @@ use Rattle.xml_names.specs.Scopes.{xmlns_prefix}
 use Rattle.xml_names.specs.declared.names.Name.{Name}
 use Rattle.xml_names.specs.declared.names.Decl.{Decl}
 use Rattle.xml_grammar.specs.Digits.{decimal_digits}
-use Rattle.xml_grammar.specs.Rules.{Rule, word, run, number_from, sequence, either, many, map_rule}
-use Rattle.xml_grammar.specs.Rules.{only, with_value_marks, optional, between, some_of}
-use Rattle.xml_grammar.specs.Rules.{keeping_first}
-use Rattle.xml_grammar.specs.Rules.{keeping_second, quoted}
+use Rattle.xml_grammar.specs.Rules.{Rule, word, char_run, number_of_digits, sequence, either, many}
+use Rattle.xml_grammar.specs.Rules.{map_rule}
+use Rattle.xml_grammar.specs.Rules.{filter_rule, with_value_marks, optional, between_gaps}
+use Rattle.xml_grammar.specs.Rules.{one_or_more}
+use Rattle.xml_grammar.specs.Rules.{keep_first}
+use Rattle.xml_grammar.specs.Rules.{keep_second, quoted}
 use Rattle.xml_tokens.specs.declared.fault_kind.FaultKind.{FaultKind}
 use Rattle.xml_tokens.specs.declared.fault_kind.FaultKind.TheVariants.{Unbound}
-use Rattle.xml_tokens.specs.Values.{written}
-use Rattle.xml_tokens.specs.Tokens.{qname, reference, is_quote, is_raw_in}
+use Rattle.xml_tokens.specs.Values.{qname_text}
+use Rattle.xml_tokens.specs.Tokens.{qname, reference, is_quote, is_raw_value_char}
 use Rattle.node_select.specs.declared.steps.TheConstants.{MAX_POSITION}
 use Rattle.node_select.specs.declared.selector.NameTest.{NameTest}
 use Rattle.node_select.specs.declared.selector.NameTest.TheVariants.{Any, Named}
@@ -38,43 +40,43 @@ use Rattle.node_select.specs.declared.selector.Selector.{Selector}
 use Rattle.node_select.specs.declared.selector.PatchEnd.{PatchEnd}
 use Rattle.node_select.specs.declared.selector.PatchEnd.TheVariants as patch_ends
 use Rattle.node_select.specs.declared.selector.PatchSelector.{PatchSelector}
-use Rattle.node_select.specs.Names.{is_unbound, name_uri, attr_uri}
+use Rattle.node_select.specs.Names.{has_unbound_prefix, name_uri, attr_uri}
 
 -- ---- values and positions
 
 -- the value of raw characters and references, without normalization
-abbrev pub more_plain : List (ℕ × List ℕ) → List ℕ
-more_plain [] = []
-more_plain ((c, cs) ∷ pieces) = c ∷ (cs ++ more_plain pieces)
+abbrev pub pieces_text : List (ℕ × List ℕ) → List ℕ
+pieces_text [] = []
+pieces_text ((c, cs) ∷ pieces) = c ∷ (cs ++ pieces_text pieces)
 
 abbrev pub literal_value : List ℕ × List (ℕ × List ℕ) → List ℕ
-literal_value x = x.0 ++ more_plain x.1
+literal_value x = x.0 ++ pieces_text x.1
 
 abbrev pub value : Rule FaultKind (List ℕ)
 value = quoted is_quote (λ quote. map_rule literal_value
-    (between (run (is_raw_in quote)) reference))
+    (between_gaps (char_run (is_raw_value_char quote)) reference))
 
 -- a position above the greatest one is read as 0, a position that no child has
 abbrev pub position_of : List ℕ → ℕ
 position_of digits =
-    if nat_le (number_from decimal_digits 0 digits) MAX_POSITION
-    then number_from decimal_digits 0 digits
+    if nat_le (number_of_digits decimal_digits 0 digits) MAX_POSITION
+    then number_of_digits decimal_digits 0 digits
     else 0
 
 -- "[" 1*DIGIT "]"
 abbrev pub position : Rule FaultKind ℕ
 position =
-    keeping_second (word (codes "["))
-    (keeping_first (map_rule position_of (some_of is_ascii_digit)) (word (codes "]")))
+    keep_second (word (codes "["))
+    (keep_first (map_rule position_of (one_or_more is_ascii_digit)) (word (codes "]")))
 
 -- `xmlns`, which declares, isn't an attribute's name
 abbrev pub is_attribute_name : Name → Bool
 is_attribute_name n = not (bytes_eq n.prefix [] && bytes_eq n.local xmlns_prefix)
 
 -- A name with an unbound prefix is marked, at its first character.
-abbrev pub IsUnbound : List Decl → Name → FaultKind → ℕ → Type 0
-IsUnbound bindings name kind back =
-    (is_unbound bindings name ≡ true) × (kind ≡ Unbound) × (back ≡ length (written name))
+abbrev pub MarksUnboundName : List Decl → Name → FaultKind → ℕ → Type 0
+MarksUnboundName bindings name kind back =
+    (has_unbound_prefix bindings name ≡ true) × (kind ≡ Unbound) × (back ≡ length (qname_text name))
 
 -- prefixes have these bindings, and an element's name without prefix is in this namespace
 module _ (bindings : List Decl) (default : List ℕ) where
@@ -85,21 +87,21 @@ module _ (bindings : List Decl) (default : List ℕ) where
   node_name =
       either (map_rule (λ _. Any) (word (codes "*")))
       (map_rule (λ name. Named (name_uri bindings default name) name.local)
-      (with_value_marks (IsUnbound bindings) qname))
+      (with_value_marks (MarksUnboundName bindings) qname))
 
   -- "@" QName
   abbrev pub attribute : Rule FaultKind Name
   attribute =
-      keeping_second (word (codes "@")) (with_value_marks (IsUnbound bindings)
-      (only is_attribute_name qname))
+      keep_second (word (codes "@")) (with_value_marks (MarksUnboundName bindings)
+      (filter_rule is_attribute_name qname))
 
   -- "[" "@" QName "=" value "]"
   abbrev pub test : Rule FaultKind AttrTest
   test =
-      keeping_second (word (codes "["))
-      (keeping_first (map_rule
+      keep_second (word (codes "["))
+      (keep_first (map_rule
       (λ x. record { uri = attr_uri bindings x.0; local = x.0.local; value = x.1 })
-      (sequence attribute (λ _. keeping_second (word (codes "=")) value)))
+      (sequence attribute (λ _. keep_second (word (codes "=")) value)))
       (word (codes "]")))
 
   abbrev pub step : Rule FaultKind Step
@@ -110,7 +112,7 @@ module _ (bindings : List Decl) (default : List ℕ) where
   -- step *( "/" step )
   abbrev pub steps : Rule FaultKind (List Step)
   steps =
-      map_rule (λ x. x.0 ∷ x.1) (sequence step (λ _. many (keeping_second (word (codes "/")) step)))
+      map_rule (λ x. x.0 ∷ x.1) (sequence step (λ _. many (keep_second (word (codes "/")) step)))
 
   -- ---- selectors
 
@@ -125,7 +127,7 @@ module _ (bindings : List Decl) (default : List ℕ) where
   selector =
       map_rule (λ x. record { steps = x.0; end = x.1 })
       (sequence steps (λ _.
-      map_rule (λ o. unwrap_or o Element) (optional (keeping_second (word (codes "/")) end))))
+      map_rule (λ o. unwrap_or o Element) (optional (keep_second (word (codes "/")) end))))
 
   -- ---- selectors of patches
 
@@ -134,12 +136,12 @@ module _ (bindings : List Decl) (default : List ℕ) where
   patch_end =
       either (map_rule (λ name. patch_ends.Attribute (attr_uri bindings name) name.local) attribute)
       (map_rule (λ n. patch_ends.Chars n)
-      (keeping_second (word (codes "text()")) (optional position)))
+      (keep_second (word (codes "text()")) (optional position)))
 
   abbrev pub patch_selector : Rule FaultKind PatchSelector
   patch_selector =
-      keeping_second (optional (word (codes "/")))
+      keep_second (optional (word (codes "/")))
       (map_rule (λ x. record { steps = x.0; end = x.1 })
       (sequence steps (λ _.
       map_rule (λ o. unwrap_or o patch_ends.Element)
-      (optional (keeping_second (word (codes "/")) patch_end)))))
+      (optional (keep_second (word (codes "/")) patch_end)))))

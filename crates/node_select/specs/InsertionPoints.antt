@@ -13,23 +13,24 @@ IsLawfulInsertion named tested position child_elements new gap =
 
 -- no child keeps the new one from being selected, whichever gap it is inserted into: without a
 -- position no child matches yet
-abbrev pub IsFree : {A : Type 0} → (A → Bool) → (A → Bool) → Option ℕ → List A → Type 0
-IsFree named tested None child_elements = (k : ℕ) → Matches named tested None child_elements k → ⊥
-IsFree named tested (Some n) child_elements = Unit {0}
+abbrev pub AllowsInsertion : {A : Type 0} → (A → Bool) → (A → Bool) → Option ℕ → List A → Type 0
+AllowsInsertion named tested None child_elements = (k : ℕ)
+    → Matches named tested None child_elements k → ⊥
+AllowsInsertion named tested (Some n) child_elements = Unit {0}
 
 -- of `gaps` gaps, the last that is lawful and valid
-pub record IsLastPlace (lawful valid : ℕ → Type 0) (gaps gap : ℕ) : Type 0 where
+pub record IsLastValidGap (lawful valid : ℕ → Type 0) (gaps gap : ℕ) : Type 0 where
   pub within : gap < gaps
   pub is_lawful : lawful gap
   pub is_valid : valid gap
   pub last : (k : ℕ) → k < gaps → lawful k → valid k → k ≤ gap
 
 -- of `gaps` gaps none is lawful
-pub record NoneLawful (lawful : ℕ → Type 0) (gaps : ℕ) : Type 0 where
+pub record HasNoLawfulGap (lawful : ℕ → Type 0) (gaps : ℕ) : Type 0 where
   pub none : (k : ℕ) → k < gaps → lawful k → ⊥
 
 -- of `gaps` gaps some are lawful, and none of these is valid
-pub record NoneValid (lawful valid : ℕ → Type 0) (gaps : ℕ) : Type 0 where
+pub record HasNoValidGap (lawful valid : ℕ → Type 0) (gaps : ℕ) : Type 0 where
   pub some_gap : ℕ
   pub within : some_gap < gaps
   pub is_lawful : lawful some_gap
@@ -39,9 +40,10 @@ pub record NoneValid (lawful valid : ℕ → Type 0) (gaps : ℕ) : Type 0 where
 -- refusal where none is lawful, the second where none of the lawful ones is valid
 abbrev pub IsInsertionPlan : {E : Type 0} → E → E → (ℕ → Type 0) → (ℕ → Type 0) → ℕ → Result ℕ E
     → Type 0
-IsInsertionPlan unlawful invalid lawful valid gaps (Ok gap) = IsLastPlace lawful valid gaps gap
+IsInsertionPlan unlawful invalid lawful valid gaps (Ok gap) = IsLastValidGap lawful valid gaps gap
 IsInsertionPlan unlawful invalid lawful valid gaps (Err e) =
-    ((e ≡ unlawful) × NoneLawful lawful gaps) ⊎ ((e ≡ invalid) × NoneValid lawful valid gaps)
+    ((e ≡ unlawful) × HasNoLawfulGap lawful gaps)
+    ⊎ ((e ≡ invalid) × HasNoValidGap lawful valid gaps)
 
 -- ---- the computed plan, where both properties are tests
 
@@ -50,18 +52,19 @@ abbrev pub no_plan : {E : Type 0} → E → Result ℕ E
 no_plan unlawful = Err unlawful
 
 -- the plan where the gap is lawful and not valid
-abbrev pub plan_without : {E : Type 0} → E → Result ℕ E → Result ℕ E
-plan_without invalid (Ok gap) = Ok gap
-plan_without invalid (Err e) = Err invalid
+abbrev pub plan_with_invalid_gap : {E : Type 0} → E → Result ℕ E → Result ℕ E
+plan_with_invalid_gap invalid (Ok gap) = Ok gap
+plan_with_invalid_gap invalid (Err e) = Err invalid
 
 -- the plan with one more gap
-abbrev pub plan_with : {E : Type 0} → E → Result ℕ E → ℕ → Bool → Bool → Result ℕ E
-plan_with invalid plan gap false valid = plan
-plan_with invalid plan gap true false = plan_without invalid plan
-plan_with invalid plan gap true true = Ok gap
+abbrev pub plan_with_gap : {E : Type 0} → E → Result ℕ E → ℕ → Bool → Bool → Result ℕ E
+plan_with_gap invalid plan gap false valid = plan
+plan_with_gap invalid plan gap true false = plan_with_invalid_gap invalid plan
+plan_with_gap invalid plan gap true true = Ok gap
 
 -- the plan over `gaps` gaps
-abbrev pub plan_of : {E : Type 0} → E → E → (ℕ → Bool) → (ℕ → Bool) → ℕ → Result ℕ E
-plan_of unlawful invalid lawful valid zero = no_plan unlawful
-plan_of unlawful invalid lawful valid (suc gaps) =
-    plan_with invalid (plan_of unlawful invalid lawful valid gaps) gaps (lawful gaps) (valid gaps)
+abbrev pub insertion_plan : {E : Type 0} → E → E → (ℕ → Bool) → (ℕ → Bool) → ℕ → Result ℕ E
+insertion_plan unlawful invalid lawful valid zero = no_plan unlawful
+insertion_plan unlawful invalid lawful valid (suc gaps) =
+    plan_with_gap invalid (insertion_plan unlawful invalid lawful valid gaps) gaps (lawful gaps)
+    (valid gaps)

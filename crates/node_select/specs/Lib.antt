@@ -2,7 +2,7 @@ pub mod Edits
 pub mod Faults
 pub mod Grammar
 pub mod InsertionPoints
-pub mod LastStep
+pub mod LastSteps
 pub mod Names
 pub mod Selection
 pub mod StepSelection

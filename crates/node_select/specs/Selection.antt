@@ -19,36 +19,38 @@ use Rattle.node_select.specs.declared.selector.Step.{Step}
 use Rattle.node_select.specs.declared.selector.End.{End}
 use Rattle.node_select.specs.declared.selector.End.TheVariants.{Attribute}
 use Rattle.node_select.specs.declared.selector.Selector.{Selector}
-use Rattle.node_select.specs.Names.{is_named_so}
+use Rattle.node_select.specs.Names.{has_expanded_name}
 
 -- ---- the two tests of a child, in the scope of its parent
 
 -- whether a name passes the name test
-abbrev pub passes : NameTest → ExpandedName → Bool
-passes Any name = true
-passes (Named uri local) name = is_named_so uri local name
+abbrev pub passes_name_test : NameTest → ExpandedName → Bool
+passes_name_test Any name = true
+passes_name_test (Named uri local) name = has_expanded_name uri local name
 
 -- whether a child passes a step's name test
 abbrev pub is_named : List (List Decl) → Step → Tree → Bool
 is_named c step child_element =
-    passes step.name (element_name (inside c child_element) child_element.name)
+    passes_name_test step.name (element_name (inside c child_element) child_element.name)
 
 -- whether an attribute has this name, in the scope at its element
-abbrev pub is_attr : List (List Decl) → List ℕ → List ℕ → Attr → Bool
-is_attr c uri local attr = is_named_so uri local (attr_name c attr.name)
+abbrev pub is_attr_named : List (List Decl) → List ℕ → List ℕ → Attr → Bool
+is_attr_named c uri local attr = has_expanded_name uri local (attr_name c attr.name)
 
 -- whether an attribute has the name and the value of the test
-abbrev pub is_asked : List (List Decl) → AttrTest → Attr → Bool
-is_asked c test attr = bytes_eq attr.value test.value && is_attr c test.uri test.local attr
+abbrev pub passes_attr_test : List (List Decl) → AttrTest → Attr → Bool
+passes_attr_test c test attr =
+    bytes_eq attr.value test.value && is_attr_named c test.uri test.local attr
 
 -- whether some attribute passes the test, if there is one
-abbrev pub has_asked : List (List Decl) → Option AttrTest → List Attr → Bool
-has_asked c None attrs = true
-has_asked c (Some test) attrs = list_any (is_asked c test) attrs
+abbrev pub some_attr_passes : List (List Decl) → Option AttrTest → List Attr → Bool
+some_attr_passes c None attrs = true
+some_attr_passes c (Some test) attrs = list_any (passes_attr_test c test) attrs
 
 -- whether a child passes a step's attribute test
 abbrev pub is_tested : List (List Decl) → Step → Tree → Bool
-is_tested c step child_element = has_asked (inside c child_element) step.test child_element.attrs
+is_tested c step child_element =
+    some_attr_passes (inside c child_element) step.test child_element.attrs
 
 -- ---- selection as a relation
 
@@ -73,12 +75,12 @@ SelectsPath steps root p = SelectsAmong [] (root ∷ []) steps (0 ∷ p)
 
 -- whether the end exists, for an element in its scope
 abbrev pub has_end : End → List (List Decl) → Tree → Bool
-has_end (Attribute uri local) c e = list_any (is_attr c uri local) e.attrs
+has_end (Attribute uri local) c e = list_any (is_attr_named c uri local) e.attrs
 has_end _ c e = true
 
 -- the selector finds something: its steps select an element, which has the attribute if the
 -- selector ends in one
-pub record Found (root : Tree) (selector : Selector) : Type 0 where
+pub record FindsNode (root : Tree) (selector : Selector) : Type 0 where
   pub path : List ℕ
   pub element : Tree
   pub selects : SelectsPath selector.steps root path
@@ -98,40 +100,41 @@ pub record IsLongestMatch (steps : List Step) (root : Tree) (k : ℕ) : Type 0 w
 -- the number of the only child that matches
 abbrev pub selected_child : List (List Decl) → Step → List Tree → Option ℕ
 selected_child c step child_elements =
-    step_laws.selected (is_named c step) (is_tested c step) step.position child_elements
+    step_laws.selected_number (is_named c step) (is_tested c step) step.position child_elements
 
 -- the path from these children down
-abbrev pub selected_among : List (List Decl) → List Tree → List Step → Option (List ℕ)
-selected_among c child_elements [] = Some []
-selected_among c child_elements (step ∷ steps) =
+abbrev pub selected_path_among : List (List Decl) → List Tree → List Step → Option (List ℕ)
+selected_path_among c child_elements [] = Some []
+selected_path_among c child_elements (step ∷ steps) =
     option_and_then (λ i.
     option_map (λ p. i ∷ p)
     (option_and_then (λ child_element.
-    selected_among (inside c child_element) (child_elements_of child_element) steps)
+    selected_path_among (inside c child_element) (child_elements_of child_element) steps)
     (slice_get child_elements i)))
     (selected_child c step child_elements)
 
 -- the path of the element that the steps select
-abbrev pub selected_in : List Step → Tree → Option (List ℕ)
-selected_in [] root = None
-selected_in (step ∷ steps) root =
+abbrev pub selected_element_path : List Step → Tree → Option (List ℕ)
+selected_element_path [] root = None
+selected_element_path (step ∷ steps) root =
     if step_laws.matches (is_named [] step) (is_tested [] step) step.position (root ∷ []) 0
-    then selected_among (root.decls ∷ []) (child_elements_of root) steps
+    then selected_path_among (root.decls ∷ []) (child_elements_of root) steps
     else None
 
 -- one step more than the remaining steps, if they select something
-abbrev pub deeper : Option ℕ → ℕ
-deeper None = 0
-deeper (Some n) = suc n
+abbrev pub one_step_deeper : Option ℕ → ℕ
+one_step_deeper None = 0
+one_step_deeper (Some n) = suc n
 
 -- how many first steps select one element after the other, from these children down
-abbrev pub depth_among : List (List Decl) → List Tree → List Step → ℕ
-depth_among c child_elements [] = 0
-depth_among c child_elements (step ∷ steps) =
-    deeper (option_map
-    (λ child_element. depth_among (inside c child_element) (child_elements_of child_element) steps)
+abbrev pub matched_depth : List (List Decl) → List Tree → List Step → ℕ
+matched_depth c child_elements [] = 0
+matched_depth c child_elements (step ∷ steps) =
+    one_step_deeper (option_map
+    (λ child_element. matched_depth (inside c child_element)
+    (child_elements_of child_element) steps)
     (option_and_then (slice_get child_elements) (selected_child c step child_elements)))
 
 -- the greatest number of first steps that select an element
-abbrev pub longest_in : List Step → Tree → ℕ
-longest_in steps root = depth_among [] (root ∷ []) steps
+abbrev pub longest_match_in : List Step → Tree → ℕ
+longest_match_in steps root = matched_depth [] (root ∷ []) steps

@@ -28,7 +28,7 @@ pub record Selects {A : Type 0} (named tested : A → Bool) (position : Option �
   pub alone : (k : ℕ) → Matches named tested position child_elements k → k ≡ i
 
 -- the tests give the two lists of children the same results, one by one
-pub record AreAlike {A B : Type 0} (named tested : A → Bool) (named' tested' : B → Bool)
+pub record HaveSameTestResults {A B : Type 0} (named tested : A → Bool) (named' tested' : B → Bool)
     (child_elements : List A) (child_elements' : List B) : Type 0 where
   pub same_named : map named child_elements ≡ map named' child_elements'
   pub same_tested : map tested child_elements ≡ map tested' child_elements'
@@ -54,10 +54,10 @@ matches named tested position child_elements i =
     (slice_get child_elements i)
 
 -- the numbers that pass, of a range from the first one on
-abbrev pub passing : (ℕ → Bool) → ℕ → ℕ → List ℕ
-passing p first zero = []
-passing p first (suc many) =
-    cond (p first) (first ∷ passing p (suc first) many) (passing p (suc first) many)
+abbrev pub passing_numbers : (ℕ → Bool) → ℕ → ℕ → List ℕ
+passing_numbers p first zero = []
+passing_numbers p first (suc many) =
+    cond (p first) (first ∷ passing_numbers p (suc first) many) (passing_numbers p (suc first) many)
 
 -- the only item of a list
 abbrev pub only_item : List ℕ → Option ℕ
@@ -66,6 +66,7 @@ only_item (i ∷ []) = Some i
 only_item (i ∷ j ∷ more) = None
 
 -- the number of the only child that matches
-abbrev pub selected : {A : Type 0} → (A → Bool) → (A → Bool) → Option ℕ → List A → Option ℕ
-selected named tested position child_elements =
-    only_item (passing (matches named tested position child_elements) 0 (length child_elements))
+abbrev pub selected_number : {A : Type 0} → (A → Bool) → (A → Bool) → Option ℕ → List A → Option ℕ
+selected_number named tested position child_elements =
+    only_item
+    (passing_numbers (matches named tested position child_elements) 0 (length child_elements))

@@ -4,7 +4,7 @@ ghost use Rattle.node_select.specs.Names.{prefix_uri};
 
 use std::alloc::{AllocError, Global};
 use std::marker::Model;
-use xml_names::{Decl, IndexedDecls, Prefix, Text, declared_in, is_xmlns};
+use xml_names::{Decl, IndexedDecls, Prefix, Text, index_decls, is_xmlns_prefix};
 use xml_tree::Scope;
 
 /// Prefixes with their URIs, as declarations: the last one of a prefix counts, and an empty URI
@@ -18,7 +18,7 @@ pub struct Bindings {
 impl Model for Bindings {
     ghost use Rattle.std.specs.Prelude.{List};
     ghost use Rattle.xml_names.specs.declared.names.Decl.{Decl};
-    ghost use Rattle.xml_names.specs.inner.Codes.{decls_code};
+    ghost use Rattle.xml_names.specs.inner.ValueCodes.{decls_code};
 
     ghost Value = { List Decl };
 
@@ -59,7 +59,7 @@ impl Bindings {
     pub(crate) fn indexed_decls(&self) -> IndexedDecls<'_>
         ensures declares_bindings { result ≡ self.now }
     {
-        declared_in(self.alloc, &self.decls)
+        index_decls(self.alloc, &self.decls)
     }
 
     /// The URI that a prefix is bound to. Does not allocate.
@@ -67,7 +67,7 @@ impl Bindings {
         ensures exact { option_map (λ uri. chars uri.now) result
             ≡ prefix_uri self.now (chars prefix.now) }
     {
-        if is_xmlns(prefix) {
+        if is_xmlns_prefix(prefix) {
             return None;
         }
         Scope::empty().with(&self.decls).resolve(prefix)

@@ -8,7 +8,7 @@ ghost use Rattle.node_select.specs.Selection.{IsLongestMatch, SelectsPath};
 use crate::selector::Step;
 use crate::step_match::{is_match, select_child};
 use std::alloc::Global;
-use xml_names::declared_in;
+use xml_names::index_decls;
 use xml_tree::{Element, LinkedScope, Path};
 
 /// How far steps lead from the document down.
@@ -29,10 +29,10 @@ pub fn reach(alloc: Global, root: &Element, steps: &[Step]) -> Reached
         → SelectsPath (take result.steps steps.now) root.now result.path }
 {
     let [step, steps @ ..] = steps else {
-        return no_descent();
+        return nothing_reached();
     };
     if !is_match(alloc, &LinkedScope::empty(), step, root, 0) {
-        return no_descent();
+        return nothing_reached();
     }
     let below = reach_inside(alloc, root, steps);
     Reached {
@@ -42,7 +42,7 @@ pub fn reach(alloc: Global, root: &Element, steps: &[Step]) -> Reached
 }
 
 // The result where not even the first step selects.
-fn no_descent() -> Reached
+fn nothing_reached() -> Reached
     ensures no_step { result.steps ≡ 0 }
     ensures no_path { result.path ≡ [] }
 {
@@ -58,7 +58,7 @@ fn reach_inside(alloc: Global, root: &Element, steps: &[Step]) -> Reached
     ensures reaches_below { ReachesBelow (root.now.decls ∷ [])
         (child_elements_of root.now) steps.now [] result }
 {
-    let declared = declared_in(alloc, root.decls());
+    let declared = index_decls(alloc, root.decls());
     reach_below(
         alloc,
         &LinkedScope::empty().inside(&declared),
@@ -92,7 +92,7 @@ fn reach_below(
     let Some(longer) = path.child(child) else {
         unreachable!()
     };
-    let declared = declared_in(alloc, child_element.decls());
+    let declared = index_decls(alloc, child_element.decls());
     let inside = (&*scope).inside(&declared);
     let below = reach_below(alloc, &inside, child_element, steps, longer);
     Reached {

@@ -3,13 +3,14 @@ ghost use Rattle.std.specs.Prelude.{◌≡◌, ◌≤◌, ◌+◌, ◌++◌, ◌
 ghost use Rattle.std.specs.Prelude.{Some};
 ghost use Rattle.xml_names.specs.declared.limits.TheConstants.{MAX_LEVELS};
 ghost use Rattle.xml_tree.specs.Tree.{height, child_elements_of};
-ghost use Rattle.node_select.specs.Selection.{IsLongestMatch, SelectsPath, depth_among, longest_in};
-ghost use Rattle.node_select.specs.Selection.{selected_among, selected_in};
+ghost use Rattle.node_select.specs.Selection.{IsLongestMatch, SelectsPath, matched_depth};
+ghost use Rattle.node_select.specs.Selection.{longest_match_in};
+ghost use Rattle.node_select.specs.Selection.{selected_path_among, selected_element_path};
 
 use crate::selector::{Selector, Step};
 use crate::step_match::{is_match, select_child};
 use std::alloc::Global;
-use xml_names::declared_in;
+use xml_names::index_decls;
 use xml_tree::{Element, LinkedScope, Path};
 
 /// The element that a selector's steps select: None exactly when some step matches no element or
@@ -19,7 +20,7 @@ pub fn select(alloc: Global, root: &Element, selector: &Selector) -> Option<Path
     requires { height root.now ≤ MAX_LEVELS }
     ensures selected_path { (p : List ℕ)
         → (result ≡ Some p) ↔ SelectsPath selector.now.steps root.now p }
-    ensures computed_path { result ≡ selected_in selector.now.steps root.now }
+    ensures computed_path { result ≡ selected_element_path selector.now.steps root.now }
 {
     select_steps(alloc, root, selector.steps.as_slice())
 }
@@ -28,7 +29,7 @@ pub fn select(alloc: Global, root: &Element, selector: &Selector) -> Option<Path
 pub fn select_steps(alloc: Global, root: &Element, steps: &[Step]) -> Option<Path>
     requires { height root.now ≤ MAX_LEVELS }
     ensures selected_path { (p : List ℕ) → (result ≡ Some p) ↔ SelectsPath steps.now root.now p }
-    ensures exact { result ≡ selected_in steps.now root.now }
+    ensures exact { result ≡ selected_element_path steps.now root.now }
 {
     select_outside(alloc, root, steps)
 }
@@ -36,7 +37,7 @@ pub fn select_steps(alloc: Global, root: &Element, steps: &[Step]) -> Option<Pat
 // The element that steps select, of which the first matches the root.
 fn select_outside(alloc: Global, root: &Element, steps: &[Step]) -> Option<Path>
     requires { height root.now ≤ MAX_LEVELS }
-    ensures exact { result ≡ selected_in steps.now root.now }
+    ensures exact { result ≡ selected_element_path steps.now root.now }
 {
     let [step, steps @ ..] = steps else {
         return None;
@@ -51,9 +52,9 @@ fn select_outside(alloc: Global, root: &Element, steps: &[Step]) -> Option<Path>
 fn select_inside(alloc: Global, root: &Element, steps: &[Step]) -> Option<Path>
     requires { height root.now ≤ MAX_LEVELS }
     ensures exact { result
-        ≡ selected_among (root.now.decls ∷ []) (child_elements_of root.now) steps.now }
+        ≡ selected_path_among (root.now.decls ∷ []) (child_elements_of root.now) steps.now }
 {
-    let declared = declared_in(alloc, root.decls());
+    let declared = index_decls(alloc, root.decls());
     select_below(
         alloc,
         &LinkedScope::empty().inside(&declared),
@@ -74,7 +75,7 @@ fn select_below(
     requires { length path + height element.now ≤ MAX_LEVELS }
     ensures exact { result
         ≡ option_map (λ q. path ++ q)
-        (selected_among scope.now (child_elements_of element.now) steps.now) }
+        (selected_path_among scope.now (child_elements_of element.now) steps.now) }
 {
     let [step, steps @ ..] = steps else {
         return Some(path);
@@ -82,7 +83,7 @@ fn select_below(
     let child = select_child(alloc, scope, step, element)?;
     let child_element = element.child_element(child)?;
     let path = path.child(child)?;
-    let declared = declared_in(alloc, child_element.decls());
+    let declared = index_decls(alloc, child_element.decls());
     select_below(
         alloc,
         &(&*scope).inside(&declared),
@@ -96,14 +97,14 @@ fn select_below(
 /// first one selects the root. Allocates as `select` does.
 pub fn longest_match(alloc: Global, root: &Element, selector: &Selector) -> usize
     ensures longest_selecting { IsLongestMatch selector.now.steps root.now result }
-    ensures computed_path { result ≡ longest_in selector.now.steps root.now }
+    ensures computed_path { result ≡ longest_match_in selector.now.steps root.now }
 {
-    matched_steps(alloc, root, selector.steps.as_slice())
+    count_matched_steps(alloc, root, selector.steps.as_slice())
 }
 
 // How many first steps select an element.
-fn matched_steps(alloc: Global, root: &Element, steps: &[Step]) -> usize
-    ensures exact { result ≡ longest_in steps.now root.now }
+fn count_matched_steps(alloc: Global, root: &Element, steps: &[Step]) -> usize
+    ensures exact { result ≡ longest_match_in steps.now root.now }
 {
     let [step, steps @ ..] = steps else {
         return 0;
@@ -111,22 +112,27 @@ fn matched_steps(alloc: Global, root: &Element, steps: &[Step]) -> usize
     if !is_match(alloc, &LinkedScope::empty(), step, root, 0) {
         return 0;
     }
-    1 + longest_inside(alloc, root, steps)
+    1 + longest_match_inside(alloc, root, steps)
 }
 
 // How many first steps select one element after the other from the root down.
-fn longest_inside(alloc: Global, root: &Element, steps: &[Step]) -> usize
+fn longest_match_inside(alloc: Global, root: &Element, steps: &[Step]) -> usize
     ensures exact { result
-        ≡ depth_among (root.now.decls ∷ []) (child_elements_of root.now) steps.now }
+        ≡ matched_depth (root.now.decls ∷ []) (child_elements_of root.now) steps.now }
 {
-    let declared = declared_in(alloc, root.decls());
-    longest_below(alloc, &LinkedScope::empty().inside(&declared), root, steps)
+    let declared = index_decls(alloc, root.decls());
+    longest_match_below(alloc, &LinkedScope::empty().inside(&declared), root, steps)
 }
 
 // How many first steps select one element after the other from an element down, in the scope at
 // it.
-fn longest_below(alloc: Global, scope: &LinkedScope<'_>, element: &Element, steps: &[Step]) -> usize
-    ensures exact { result ≡ depth_among scope.now (child_elements_of element.now) steps.now }
+fn longest_match_below(
+    alloc: Global,
+    scope: &LinkedScope<'_>,
+    element: &Element,
+    steps: &[Step],
+) -> usize
+    ensures exact { result ≡ matched_depth scope.now (child_elements_of element.now) steps.now }
 {
     let [step, steps @ ..] = steps else {
         return 0;
@@ -137,6 +143,6 @@ fn longest_below(alloc: Global, scope: &LinkedScope<'_>, element: &Element, step
     let Some(child_element) = element.child_element(child) else {
         return 0;
     };
-    let declared = declared_in(alloc, child_element.decls());
-    1 + longest_below(alloc, &(&*scope).inside(&declared), child_element, steps)
+    let declared = index_decls(alloc, child_element.decls());
+    1 + longest_match_below(alloc, &(&*scope).inside(&declared), child_element, steps)
 }

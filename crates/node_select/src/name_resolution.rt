@@ -1,22 +1,26 @@
 //! What the names of a selector mean, by the bindings of their prefixes.
 ghost use Rattle.std.specs.Prelude.{◌≡◌, ◌+◌, ◌<◌, ◌^◌, IfOk, chars, map, Option, option_map};
-ghost use Rattle.xml_tokens.specs.readers.TokenViews.{name_in};
+ghost use Rattle.xml_tokens.specs.readers.TokenViews.{raw_name_view};
 ghost use Rattle.node_select.specs.declared.name_resolution.Unresolved.TheVariants as troubles;
-ghost use Rattle.node_select.specs.readers.NameResolution.{Means};
+ghost use Rattle.node_select.specs.readers.NameResolution.{IsResolvedAs};
 ghost use Rattle.node_select.specs.Names.{prefix_uri, attr_uri, name_uri};
-ghost use Rattle.node_select.specs.readers.Raw.{HasRoom, attr_test, end_of, name_test};
-ghost use Rattle.node_select.specs.readers.Raw.{patch_end_of, step_of, steps_of, unbound_at};
-ghost use Rattle.node_select.specs.readers.Raw.{unbound_end, unbound_from, unbound_in};
-ghost use Rattle.node_select.specs.readers.Raw.{unbound_name, unbound_patch_end, unbound_test};
-ghost use Rattle.node_select.specs.readers.Raw.{no_end, steps_size};
-ghost use Rattle.node_select.specs.readers.Views.{end_in, patch_end_in, step_in, test_in};
+ghost use Rattle.node_select.specs.readers.RawSelectors.{HasPlacesInRange, attr_test, resolved_end};
+ghost use Rattle.node_select.specs.readers.RawSelectors.{name_test};
+ghost use Rattle.node_select.specs.readers.RawSelectors.{resolved_patch_end, resolved_step};
+ghost use Rattle.node_select.specs.readers.RawSelectors.{resolved_steps, unbound_at};
+ghost use Rattle.node_select.specs.readers.RawSelectors.{unbound_end, unbound_in_steps};
+ghost use Rattle.node_select.specs.readers.RawSelectors.{unbound_in_step};
+ghost use Rattle.node_select.specs.readers.RawSelectors.{unbound_name, unbound_patch_end};
+ghost use Rattle.node_select.specs.readers.RawSelectors.{unbound_test};
+ghost use Rattle.node_select.specs.readers.RawSelectors.{no_unbound_end, steps_size};
+ghost use Rattle.node_select.specs.readers.Views.{end_view, patch_end_view, step_view, test_view};
 
 use crate::raw_selectors::{RawEnd, RawPatchEnd, RawStep, RawTest};
 use crate::selector::{AttrTest, End, NameTest, PatchEnd, Step};
-use crate::step_match::no_uri;
+use crate::step_match::empty_uri;
 use std::alloc::{AllocError, AllocFailed, Global};
 use xml_grammar::split_first;
-use xml_names::{IndexedDecls, List, Prefix, Text, is_xmlns};
+use xml_names::{IndexedDecls, List, Prefix, Text, is_xmlns_prefix};
 use xml_tokens::RawName;
 use xml_tree::LinkedScope;
 
@@ -46,7 +50,7 @@ impl<T: Drop> From<AllocFailed<T>> for Unresolved {
 }
 
 // The URI of a prefix, if it is bound.
-fn uri_of(
+fn resolve_uri(
     alloc: Global,
     bindings: &IndexedDecls<'_>,
     prefix: &str,
@@ -54,7 +58,7 @@ fn uri_of(
     ensures ok { IfOk result (λ uri. uri ≡ prefix_uri bindings.now (chars prefix.now)) }
 {
     let prefix = Prefix::from(alloc, prefix)?;
-    if is_xmlns(prefix.as_str()) {
+    if is_xmlns_prefix(prefix.as_str()) {
         return Ok(None);
     }
     match LinkedScope::empty().inside(bindings).resolve(&prefix) {
@@ -74,15 +78,15 @@ fn name_uri(
     name: &RawName<'_>,
     at: usize,
 ) -> Result<Text, Unresolved>
-    ensures means_name { Means (unbound_at bindings.now at (name_in name.now))
-        (name_uri bindings.now (chars none.now) (name_in name.now)) result }
+    ensures means_name { IsResolvedAs (unbound_at bindings.now at (raw_name_view name.now))
+        (name_uri bindings.now (chars none.now) (raw_name_view name.now)) result }
 {
     match split_first(name.prefix) {
         None => {
             let uri = Text::from(alloc, none)?;
             Ok(uri)
         }
-        Some(_) => match uri_of(alloc, bindings, name.prefix)? {
+        Some(_) => match resolve_uri(alloc, bindings, name.prefix)? {
             None => Err(Unresolved::Prefix(at)),
             Some(uri) => Ok(uri),
         },
@@ -96,10 +100,10 @@ fn attr_uri(
     name: &RawName<'_>,
     at: usize,
 ) -> Result<Text, Unresolved>
-    ensures means_attr_name { Means (unbound_at bindings.now at (name_in name.now))
-        (attr_uri bindings.now (name_in name.now)) result }
+    ensures means_attr_name { IsResolvedAs (unbound_at bindings.now at (raw_name_view name.now))
+        (attr_uri bindings.now (raw_name_view name.now)) result }
 {
-    name_uri(alloc, bindings, no_uri(), name, at)
+    name_uri(alloc, bindings, empty_uri(), name, at)
 }
 
 // The name test of a step at `at`.
@@ -110,8 +114,9 @@ fn name_test(
     name: &Option<RawName<'_>>,
     at: usize,
 ) -> Result<NameTest, Unresolved>
-    ensures means_name_test { Means (unbound_name bindings.now at (option_map name_in name.now))
-        (name_test bindings.now (chars default.now) (option_map name_in name.now)) result }
+    ensures means_name_test { IsResolvedAs
+        (unbound_name bindings.now at (option_map raw_name_view name.now))
+        (name_test bindings.now (chars default.now) (option_map raw_name_view name.now)) result }
 {
     match name {
         None => Ok(NameTest::Any),
@@ -130,8 +135,8 @@ fn attr_test(
     test: &RawTest<'_>,
     at: usize,
 ) -> Result<AttrTest, Unresolved>
-    ensures means_attr_test { Means (unbound_at bindings.now at (test_in test.now).0)
-        (attr_test bindings.now (test_in test.now)) result }
+    ensures means_attr_test { IsResolvedAs (unbound_at bindings.now at (test_view test.now).0)
+        (attr_test bindings.now (test_view test.now)) result }
 {
     let uri = attr_uri(alloc, bindings, &test.name, at)?;
     let local = Text::from(alloc, test.name.local)?;
@@ -146,8 +151,9 @@ fn optional_test(
     test: &Option<RawTest<'_>>,
     at: usize,
 ) -> Result<Option<AttrTest>, Unresolved>
-    ensures means_optional_test { Means (unbound_test bindings.now at (option_map test_in test.now))
-        (option_map (attr_test bindings.now) (option_map test_in test.now)) result }
+    ensures means_optional_test { IsResolvedAs
+        (unbound_test bindings.now at (option_map test_view test.now))
+        (option_map (attr_test bindings.now) (option_map test_view test.now)) result }
 {
     match test {
         None => Ok(None),
@@ -167,8 +173,8 @@ fn step(
     at: usize,
 ) -> Result<Step, Unresolved>
     requires { at + step.now.front + 2 < 2 ^ 64 }
-    ensures means_step { Means (unbound_in bindings.now at (step_in step.now))
-        (step_of bindings.now (chars default.now) (step_in step.now)) result }
+    ensures means_step { IsResolvedAs (unbound_in_step bindings.now at (step_view step.now))
+        (resolved_step bindings.now (chars default.now) (step_view step.now)) result }
 {
     let name = name_test(alloc, bindings, default, &step.name, at)?;
     let test = optional_test(alloc, bindings, &step.test, at + step.front + 2)?;
@@ -187,11 +193,12 @@ pub fn steps(
     steps: &[RawStep<'_>],
     at: usize,
 ) -> Result<(List<Step>, usize), Unresolved>
-    requires { HasRoom at (map step_in steps.now) }
-    ensures means_steps { Means (unbound_from bindings.now at (map step_in steps.now) no_end) (
-      steps_of bindings.now (chars default.now) (map step_in steps.now),
-      at + steps_size (map step_in steps.now),
-    )
+    requires { HasPlacesInRange at (map step_view steps.now) }
+    ensures means_steps { IsResolvedAs
+        (unbound_in_steps bindings.now at (map step_view steps.now) no_unbound_end) (
+          resolved_steps bindings.now (chars default.now) (map step_view steps.now),
+          at + steps_size (map step_view steps.now),
+        )
         result }
 {
     let mut made = List::empty(alloc);
@@ -212,8 +219,8 @@ pub fn end(
     at: usize,
 ) -> Result<End, Unresolved>
     requires { at + 1 < 2 ^ 64 }
-    ensures means_end { Means (unbound_end bindings.now (end_in end.now) at)
-        (end_of bindings.now (end_in end.now)) result }
+    ensures means_end { IsResolvedAs (unbound_end bindings.now (end_view end.now) at)
+        (resolved_end bindings.now (end_view end.now)) result }
 {
     match end {
         RawEnd::Element => Ok(End::Element),
@@ -234,8 +241,9 @@ pub fn resolve_patch_end(
     at: usize,
 ) -> Result<PatchEnd, Unresolved>
     requires { at + 1 < 2 ^ 64 }
-    ensures means_patch_end { Means (unbound_patch_end bindings.now (patch_end_in end.now) at)
-        (patch_end_of bindings.now (patch_end_in end.now)) result }
+    ensures means_patch_end { IsResolvedAs
+        (unbound_patch_end bindings.now (patch_end_view end.now) at)
+        (resolved_patch_end bindings.now (patch_end_view end.now)) result }
 {
     match end {
         RawPatchEnd::Element => Ok(PatchEnd::Element),

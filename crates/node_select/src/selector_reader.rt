@@ -1,16 +1,20 @@
 //! Reading selectors.
 ghost use Rattle.std.specs.Prelude.{◌≡◌, ◌-◌, length, map, IfOk, chars};
-ghost use Rattle.xml_names.specs.Memory.{Answered};
+ghost use Rattle.xml_names.specs.ReadErrors.{ResultSatisfies};
 ghost use Rattle.node_select.specs.Faults.{IsPatchFormAnswer, IsPatchSelectorAnswer};
-ghost use Rattle.node_select.specs.Faults.{IsSelectorAnswer, byte_of};
-ghost use Rattle.node_select.specs.readers.Raw.{HasRoom, first_unbound, first_unbound_in_patch};
-ghost use Rattle.node_select.specs.readers.Raw.{patch_selector_of, selector_of};
-ghost use Rattle.node_select.specs.readers.Views.{patch_end_in, patch_selector_in, selector_in};
-ghost use Rattle.node_select.specs.readers.Views.{step_in};
-ghost use Rattle.node_select.specs.readers.NameResolution.{Means};
-ghost use Rattle.node_select.specs.readers.ParseErrors.{Tells, TellsUnresolved};
-ghost use Rattle.node_select.specs.readers.Whole.{patch_form_read, patch_selector_read};
-ghost use Rattle.node_select.specs.readers.Whole.{raw_form_of, selector_read};
+ghost use Rattle.node_select.specs.Faults.{IsSelectorAnswer, byte_offset};
+ghost use Rattle.node_select.specs.readers.RawSelectors.{HasPlacesInRange, first_unbound};
+ghost use Rattle.node_select.specs.readers.RawSelectors.{first_unbound_in_patch};
+ghost use Rattle.node_select.specs.readers.RawSelectors.{resolved_patch_selector};
+ghost use Rattle.node_select.specs.readers.RawSelectors.{resolved_selector};
+ghost use Rattle.node_select.specs.readers.Views.{patch_end_view, patch_selector_view};
+ghost use Rattle.node_select.specs.readers.Views.{selector_view};
+ghost use Rattle.node_select.specs.readers.Views.{step_view};
+ghost use Rattle.node_select.specs.readers.NameResolution.{IsResolvedAs};
+ghost use Rattle.node_select.specs.readers.ParseErrors.{IsErrorOfStop, IsErrorOfUnresolved};
+ghost use Rattle.node_select.specs.readers.WholeSelectors.{parsed_patch_form};
+ghost use Rattle.node_select.specs.readers.WholeSelectors.{parsed_patch_selector};
+ghost use Rattle.node_select.specs.readers.WholeSelectors.{raw_form_of, parsed_selector};
 
 use crate::bindings::Bindings;
 use crate::fault::SelectorFault;
@@ -19,31 +23,34 @@ use crate::raw_selectors::{RawPatchEnd, RawPatchSelector, RawSelector};
 use crate::selector::{PatchForm, PatchSelector, Selector};
 use crate::selector_grammar::{raw_patch_selector, raw_selector};
 use std::alloc::{AllocError, Global};
-use xml_grammar::{count, skip};
+use xml_grammar::{count, skip_chars};
 use xml_names::ReadError;
 use xml_tokens::ParseError;
 
 // The byte after the first `n` characters of a text.
-fn byte_of(text: &str, n: usize) -> usize
-    ensures exact { result ≡ byte_of text.now n }
+fn byte_offset(text: &str, n: usize) -> usize
+    ensures exact { result ≡ byte_offset text.now n }
 {
-    text.len().saturating_sub(skip(text, n).len())
+    text.len().saturating_sub(skip_chars(text, n).len())
 }
 
 // The byte of a text at which this rest of it begins.
-fn place(text: &str, rest: &str) -> usize
-    ensures exact { result ≡ byte_of text.now (length (chars text.now) - length (chars rest.now)) }
+fn rest_offset(text: &str, rest: &str) -> usize
+    ensures exact { result
+        ≡ byte_offset text.now (length (chars text.now) - length (chars rest.now)) }
 {
-    byte_of(text, count(text).saturating_sub(count(rest)))
+    byte_offset(text, count(text).saturating_sub(count(rest)))
 }
 
 // Why a text hasn't the form of a selector.
 fn parse_fault(text: &str, stop: &ParseError<'_>) -> ReadError<SelectorFault>
-    ensures reports_stop { Tells text.now stop.now result }
+    ensures reports_stop { IsErrorOfStop text.now stop.now result }
 {
     match stop {
-        ParseError::Syntax(rest) => ReadError::Fault(SelectorFault::BadSelector(place(text, rest))),
-        ParseError::Faulty(_, rest) => ReadError::Fault(SelectorFault::BadSelector(place(
+        ParseError::Syntax(rest) => ReadError::Fault(SelectorFault::BadSelector(rest_offset(
+            text, rest,
+        ))),
+        ParseError::Faulty(_, rest) => ReadError::Fault(SelectorFault::BadSelector(rest_offset(
             text, rest,
         ))),
         ParseError::Memory => ReadError::NoMemory,
@@ -52,10 +59,12 @@ fn parse_fault(text: &str, stop: &ParseError<'_>) -> ReadError<SelectorFault>
 
 // Why the names of a selector can't be resolved.
 fn resolution_fault(text: &str, why: &Unresolved) -> ReadError<SelectorFault>
-    ensures reports_unbound { TellsUnresolved text.now why.now result }
+    ensures reports_unbound { IsErrorOfUnresolved text.now why.now result }
 {
     match why {
-        Unresolved::Prefix(n) => ReadError::Fault(SelectorFault::UnboundPrefix(byte_of(text, *n))),
+        Unresolved::Prefix(n) => ReadError::Fault(SelectorFault::UnboundPrefix(byte_offset(
+            text, *n,
+        ))),
         Unresolved::Memory => ReadError::NoMemory,
     }
 }
@@ -67,9 +76,9 @@ fn resolve_selector(
     bindings: &Bindings,
     default_uri: &str,
 ) -> Result<Selector, Unresolved>
-    requires { HasRoom 0 (map step_in raw.now.steps.items) }
-    ensures means_selector { Means (first_unbound bindings.now (selector_in raw.now))
-        (selector_of bindings.now (chars default_uri.now) (selector_in raw.now)) result }
+    requires { HasPlacesInRange 0 (map step_view raw.now.steps.items) }
+    ensures means_selector { IsResolvedAs (first_unbound bindings.now (selector_view raw.now))
+        (resolved_selector bindings.now (chars default_uri.now) (selector_view raw.now)) result }
 {
     let indexed_decls = bindings.indexed_decls();
     let (steps, at) = steps(alloc, &indexed_decls, default_uri, &raw.steps, 0)?;
@@ -84,10 +93,10 @@ fn resolve_patch_selector(
     bindings: &Bindings,
     default_uri: &str,
 ) -> Result<PatchSelector, Unresolved>
-    requires { HasRoom raw.now.slash (map step_in raw.now.steps.items) }
-    ensures means_patch_selector { Means
-        (first_unbound_in_patch bindings.now (patch_selector_in raw.now))
-        (patch_selector_of bindings.now (chars default_uri.now) (patch_selector_in raw.now))
+    requires { HasPlacesInRange raw.now.slash (map step_view raw.now.steps.items) }
+    ensures means_patch_selector { IsResolvedAs
+        (first_unbound_in_patch bindings.now (patch_selector_view raw.now))
+        (resolved_patch_selector bindings.now (chars default_uri.now) (patch_selector_view raw.now))
         result }
 {
     let indexed_decls = bindings.indexed_decls();
@@ -97,14 +106,14 @@ fn resolve_patch_selector(
 }
 
 // The selector that a text spells.
-fn selector_of_text(
+fn parse_selector(
     alloc: Global,
     text: &str,
     bindings: &Bindings,
     default_uri: &str,
 ) -> Result<Selector, ReadError<SelectorFault>>
-    ensures grammar_answer { Answered
-        (λ answer. answer ≡ selector_read bindings.now (chars default_uri.now) text.now) result }
+    ensures grammar_answer { ResultSatisfies
+        (λ answer. answer ≡ parsed_selector bindings.now (chars default_uri.now) text.now) result }
 {
     match raw_selector(alloc, text) {
         Err(stop) => Err(parse_fault(text, &stop)),
@@ -116,14 +125,14 @@ fn selector_of_text(
 }
 
 // The selector of a patch that a text spells.
-fn patch_selector_of_text(
+fn parse_patch_selector(
     alloc: Global,
     text: &str,
     bindings: &Bindings,
     default_uri: &str,
 ) -> Result<PatchSelector, ReadError<SelectorFault>>
-    ensures grammar_answer { Answered
-        (λ answer. answer ≡ patch_selector_read bindings.now (chars default_uri.now) text.now)
+    ensures grammar_answer { ResultSatisfies
+        (λ answer. answer ≡ parsed_patch_selector bindings.now (chars default_uri.now) text.now)
         result }
 {
     match raw_patch_selector(alloc, text) {
@@ -137,7 +146,7 @@ fn patch_selector_of_text(
 
 // The form of the end of a selector.
 fn form_of(end: &RawPatchEnd<'_>) -> PatchForm
-    ensures exact { result ≡ raw_form_of (patch_end_in end.now) }
+    ensures exact { result ≡ raw_form_of (patch_end_view end.now) }
 {
     match end {
         RawPatchEnd::Element => PatchForm::Element,
@@ -147,8 +156,8 @@ fn form_of(end: &RawPatchEnd<'_>) -> PatchForm
 }
 
 // The form of the end of a text, as the selector of a patch.
-fn form_of_text(alloc: Global, text: &str) -> Result<Option<PatchForm>, AllocError>
-    ensures ok { IfOk result (λ form. form ≡ patch_form_read text.now) }
+fn parse_patch_form(alloc: Global, text: &str) -> Result<Option<PatchForm>, AllocError>
+    ensures ok { IfOk result (λ form. form ≡ parsed_patch_form text.now) }
 {
     match raw_patch_selector(alloc, text) {
         Ok(raw) => Ok(Some(form_of(&raw.end))),
@@ -170,10 +179,10 @@ pub fn read_selector(
     bindings: &Bindings,
     default_uri: &str,
 ) -> Result<Selector, ReadError<SelectorFault>>
-    ensures grammar_answer { Answered
+    ensures grammar_answer { ResultSatisfies
         (IsSelectorAnswer bindings.now (chars default_uri.now) text.now) result }
 {
-    selector_of_text(alloc, text, bindings, default_uri)
+    parse_selector(alloc, text, bindings, default_uri)
 }
 
 /// The selector of a patch operation that a text spells (RFC 5261, section 4.1): an optional `/`,
@@ -187,10 +196,10 @@ pub fn read_patch_selector(
     bindings: &Bindings,
     default_uri: &str,
 ) -> Result<PatchSelector, ReadError<SelectorFault>>
-    ensures grammar_answer { Answered
+    ensures grammar_answer { ResultSatisfies
         (IsPatchSelectorAnswer bindings.now (chars default_uri.now) text.now) result }
 {
-    patch_selector_of_text(alloc, text, bindings, default_uri)
+    parse_patch_selector(alloc, text, bindings, default_uri)
 }
 
 /// The form of the last part of a patch operation's selector that a text spells, by the text
@@ -202,5 +211,5 @@ pub fn read_patch_selector(
 pub fn read_patch_form(alloc: Global, text: &str) -> Result<Option<PatchForm>, AllocError>
     ensures grammar_answer { IfOk result (IsPatchFormAnswer text.now) }
 {
-    form_of_text(alloc, text)
+    parse_patch_form(alloc, text)
 }

@@ -4,21 +4,23 @@
 ghost use Rattle.std.specs.Prelude.{◌≡◌, ◌↔◌, ℕ, ◌≤◌, Bool, IsTrue, List, length, take, insert};
 ghost use Rattle.std.specs.Prelude.{remove, slice_set, slice_get, count_by, Option, None, Some};
 ghost use Rattle.std.specs.Prelude.{Result};
-ghost use Rattle.node_select.specs.StepSelection.{AreAlike, IsAtPosition, Matches, Selects};
-ghost use Rattle.node_select.specs.StepSelection.{selected};
-ghost use Rattle.node_select.specs.InsertionPoints.{IsFree, IsLawfulInsertion, IsInsertionPlan};
-ghost use Rattle.node_select.specs.InsertionPoints.{plan_of};
-ghost use Rattle.node_select.specs.Edits.{IsNextMatch, IsPassedOver, shifted};
+ghost use Rattle.node_select.specs.StepSelection.{HaveSameTestResults, IsAtPosition, Matches};
+ghost use Rattle.node_select.specs.StepSelection.{Selects};
+ghost use Rattle.node_select.specs.StepSelection.{selected_number};
+ghost use Rattle.node_select.specs.InsertionPoints.{AllowsInsertion, IsLawfulInsertion};
+ghost use Rattle.node_select.specs.InsertionPoints.{IsInsertionPlan};
+ghost use Rattle.node_select.specs.InsertionPoints.{insertion_plan};
+ghost use Rattle.node_select.specs.Edits.{IsNextMatch, IsPassedOver, number_after_insertion};
 
 /// A step selects at most one child, and the computed selection is the relation.
-pub fn selection<A>()
+pub fn steps_select_one_child<A>()
     ensures answer_is_one { (named tested : A → Bool) (position : Option ℕ)
         (child_elements : List A) (i k : ℕ)
         → Selects named tested position child_elements i
         → Selects named tested position child_elements k → i ≡ k }
     ensures computed_path { (named tested : A → Bool) (position : Option ℕ)
         (child_elements : List A) (i : ℕ)
-        → (selected named tested position child_elements ≡ Some i)
+        → (selected_number named tested position child_elements ≡ Some i)
         ↔ Selects named tested position child_elements i }
     ensures position_from_one { (named tested : A → Bool) (child_elements : List A) (i : ℕ)
         → Selects named tested (Some 0) child_elements i → ⊥ }
@@ -27,15 +29,15 @@ pub fn selection<A>()
 /// Children that the tests can't distinguish, one by one, match and are selected alike. So an
 /// edit inside a child that leaves its name and attributes changes no selection among its
 /// siblings.
-pub fn alike<A, B>()
+pub fn like_children_are_selected_alike<A, B>()
     ensures match_alike { (named tested : A → Bool) (named' tested' : B → Bool)
         (position : Option ℕ) (child_elements : List A) (child_elements' : List B) (i : ℕ)
-        → AreAlike named tested named' tested' child_elements child_elements'
+        → HaveSameTestResults named tested named' tested' child_elements child_elements'
         → Matches named tested position child_elements i
         ↔ Matches named' tested' position child_elements' i }
     ensures selected_alike { (named tested : A → Bool) (named' tested' : B → Bool)
         (position : Option ℕ) (child_elements : List A) (child_elements' : List B) (i : ℕ)
-        → AreAlike named tested named' tested' child_elements child_elements'
+        → HaveSameTestResults named tested named' tested' child_elements child_elements'
         → Selects named tested position child_elements i
         ↔ Selects named' tested' position child_elements' i }
 {}
@@ -43,14 +45,14 @@ pub fn alike<A, B>()
 /// Which gaps are lawful for a new child, by the child, the matching names before the gap, and
 /// the existing children. With a position the lawful gaps are an interval; without one they are
 /// all gaps or none.
-pub fn gaps<A>()
+pub fn lawful_gaps_are_computed<A>()
     ensures lawful_iff { (named tested : A → Bool) (position : Option ℕ) (child_elements : List A)
         (new : A) (gap : ℕ)
         → gap ≤ length child_elements
         → IsLawfulInsertion named tested position child_elements new gap
         ↔ (IsTrue (named new) × IsTrue (tested new)
         × IsAtPosition position (count_by named (take gap child_elements))
-        × IsFree named tested position child_elements) }
+        × AllowsInsertion named tested position child_elements) }
     ensures gaps_are_interval { (named tested : A → Bool) (position : Option ℕ)
         (child_elements : List A) (new : A) (i j k : ℕ)
         → k ≤ length child_elements → i ≤ j → j ≤ k
@@ -71,7 +73,7 @@ pub fn gaps<A>()
 
 /// There is one plan over a number of gaps, and where both properties are tests it is the
 /// computed one.
-pub fn plans<E>()
+pub fn plans_are_computed<E>()
     ensures answer_is_one { (unlawful invalid : E) (lawful valid : ℕ → Bool) (gaps : ℕ)
         (plan plan' : Result ℕ E)
         → IsInsertionPlan unlawful invalid (λ j. IsTrue (lawful j)) (λ j. IsTrue (valid j)) gaps
@@ -81,24 +83,25 @@ pub fn plans<E>()
         → plan ≡ plan' }
     ensures computed_path { (unlawful invalid : E) (lawful valid : ℕ → Bool) (gaps : ℕ)
         → IsInsertionPlan unlawful invalid (λ j. IsTrue (lawful j)) (λ j. IsTrue (valid j)) gaps
-        (plan_of unlawful invalid lawful valid gaps) }
+        (insertion_plan unlawful invalid lawful valid gaps) }
 {}
 
 /// What a step selects after an edit among the children: a child that it passes over only shifts
 /// the numbers; a replacement of the selected child is selected where it passes both tests; and
 /// once the selected child is removed, without a position nothing matches, and with one the next
 /// child of that name is at the position.
-pub fn edits<A>()
+pub fn selection_follows_edits<A>()
     ensures put_in { (named tested : A → Bool) (position : Option ℕ) (child_elements : List A)
         (gap : ℕ) (new : A) (i : ℕ)
         → gap ≤ length child_elements → IsPassedOver named tested position new
-        → Selects named tested position (insert child_elements gap new) (shifted gap i)
+        → Selects named tested position (insert child_elements gap new)
+        (number_after_insertion gap i)
         ↔ Selects named tested position child_elements i }
     ensures taken_out { (named tested : A → Bool) (position : Option ℕ) (child_elements : List A)
         (j : ℕ) (child_element : A) (i : ℕ)
         → slice_get child_elements j ≡ Some child_element
         → IsPassedOver named tested position child_element
-        → Selects named tested position child_elements (shifted j i)
+        → Selects named tested position child_elements (number_after_insertion j i)
         ↔ Selects named tested position (remove child_elements j) i }
     ensures replaced_stays_selected { (named tested : A → Bool) (position : Option ℕ)
         (child_elements : List A) (j : ℕ) (new : A)

@@ -8,13 +8,14 @@ ghost use Rattle.std.specs.Str.{bytes_eq};
 ghost use Rattle.xml_tree.specs.Tree.{child_elements_of};
 ghost use Rattle.xml_names.specs.ExpandedNames.{element_name, attr_name};
 ghost use Rattle.node_select.specs.StepSelection.{is_at_position, child_matches};
-ghost use Rattle.node_select.specs.Names.{is_named_so, uri_of};
-ghost use Rattle.node_select.specs.Selection.{has_asked, is_asked, is_attr, is_named, is_tested};
+ghost use Rattle.node_select.specs.Names.{has_expanded_name, uri_or_empty};
+ghost use Rattle.node_select.specs.Selection.{some_attr_passes, passes_attr_test, is_attr_named};
+ghost use Rattle.node_select.specs.Selection.{is_named, is_tested};
 ghost use Rattle.node_select.specs.Selection.{selected_child};
 
 use crate::selector::{AttrTest, NameTest, Step};
 use std::alloc::Global;
-use xml_names::{Attr, Decl, IndexedDecls, Name, Text, declared_in};
+use xml_names::{Attr, Decl, IndexedDecls, Name, Text, index_decls};
 use xml_tree::{Element, LinkedScope, Node, Scope};
 
 /// The number of the first attribute of this namespace and local name, in the scope at the
@@ -29,9 +30,9 @@ pub fn find_attr(
     local: &str,
 ) -> Option<usize>
     ensures exact { result
-        ≡ position (is_attr scope.now (chars uri.now) (chars local.now)) element.now.attrs }
+        ≡ position (is_attr_named scope.now (chars uri.now) (chars local.now)) element.now.attrs }
 {
-    find_within(
+    find_attr_within(
         alloc,
         &LinkedScope::empty(),
         scope.lists(),
@@ -43,7 +44,7 @@ pub fn find_attr(
 
 // The number of the first attribute of this name, in a scope with more lists of declarations
 // inside it.
-fn find_within(
+fn find_attr_within(
     alloc: Global,
     scope: &LinkedScope<'_>,
     lists: &[&[Decl]],
@@ -52,14 +53,14 @@ fn find_within(
     local: &str,
 ) -> Option<usize>
     ensures exact { result
-        ≡ position (is_attr (scope.now ++ map (λ x. x.now) lists.now) (chars uri.now)
+        ≡ position (is_attr_named (scope.now ++ map (λ x. x.now) lists.now) (chars uri.now)
         (chars local.now)) attrs.now }
 {
     let [list, lists @ ..] = lists else {
-        return attr_place(scope, attrs, uri, local);
+        return attr_index(scope, attrs, uri, local);
     };
-    let declared = declared_in(alloc, list);
-    find_within(
+    let declared = index_decls(alloc, list);
+    find_attr_within(
         alloc,
         &(&*scope).inside(&declared),
         lists,
@@ -70,17 +71,17 @@ fn find_within(
 }
 
 // The number of the first attribute of this name in a scope.
-fn attr_place(scope: &LinkedScope<'_>, attrs: &[Attr], uri: &str, local: &str) -> Option<usize>
+fn attr_index(scope: &LinkedScope<'_>, attrs: &[Attr], uri: &str, local: &str) -> Option<usize>
     ensures exact { result
-        ≡ position (is_attr scope.now (chars uri.now) (chars local.now)) attrs.now }
+        ≡ position (is_attr_named scope.now (chars uri.now) (chars local.now)) attrs.now }
 {
     attrs
         .iter()
-        .position(|attr| is_attr(scope, uri, local, attr))
+        .position(|attr| is_attr_named(scope, uri, local, attr))
 }
 
 // The URI of a name in no namespace.
-pub(crate) fn no_uri() -> &'static str
+pub(crate) fn empty_uri() -> &'static str
     ensures holds_no_characters { chars result.now ≡ [] }
 {
     ""
@@ -96,41 +97,41 @@ pub fn same_text(a: &str, b: &str) -> bool
 
 // The URI of an element's name, which is empty where it is in no namespace.
 fn element_uri<'a>(scope: &LinkedScope<'a>, name: &Name) -> &'a str
-    ensures exact { chars result.now ≡ uri_of (element_name scope.now name.now) }
+    ensures exact { chars result.now ≡ uri_or_empty (element_name scope.now name.now) }
 {
     match scope.resolve(&name.prefix) {
         Some(uri) => uri,
-        None => no_uri(),
+        None => empty_uri(),
     }
 }
 
 // The URI of an attribute's name, which is empty where it is in no namespace.
 fn attr_uri<'a>(scope: &LinkedScope<'a>, name: &Name) -> &'a str
-    ensures exact { chars result.now ≡ uri_of (attr_name scope.now name.now) }
+    ensures exact { chars result.now ≡ uri_or_empty (attr_name scope.now name.now) }
 {
     if name.has_no_prefix() {
-        return no_uri();
+        return empty_uri();
     }
     element_uri(scope, name)
 }
 
 // Whether an attribute has this name.
-fn is_attr(scope: &LinkedScope<'_>, uri: &str, local: &str, attr: &Attr) -> bool
-    ensures exact { result ≡ is_attr scope.now (chars uri.now) (chars local.now) attr.now }
+fn is_attr_named(scope: &LinkedScope<'_>, uri: &str, local: &str, attr: &Attr) -> bool
+    ensures exact { result ≡ is_attr_named scope.now (chars uri.now) (chars local.now) attr.now }
 {
     attr.name.local.is(local) && same_text(attr_uri(scope, &attr.name), uri)
 }
 
 // Whether an attribute passes a test.
-fn is_asked(scope: &LinkedScope<'_>, test: &AttrTest, attr: &Attr) -> bool
-    ensures exact { result ≡ is_asked scope.now test.now attr.now }
+fn passes_attr_test(scope: &LinkedScope<'_>, test: &AttrTest, attr: &Attr) -> bool
+    ensures exact { result ≡ passes_attr_test scope.now test.now attr.now }
 {
     attr.value.is(test.value.as_str())
-        && is_attr(scope, test.uri.as_str(), test.local.as_str(), attr)
+        && is_attr_named(scope, test.uri.as_str(), test.local.as_str(), attr)
 }
 
 // Whether an element has this name, in the scope around it.
-fn is_named_so(
+fn has_expanded_name(
     alloc: Global,
     scope: &LinkedScope<'_>,
     uri: &Text,
@@ -138,7 +139,7 @@ fn is_named_so(
     child_element: &Element,
 ) -> bool
     ensures exact { result
-        ≡ is_named_so uri.now local.now
+        ≡ has_expanded_name uri.now local.now
         (element_name (inside scope.now child_element.now) child_element.now.name) }
 {
     let declared = IndexedDecls::new(alloc, child_element.decls());
@@ -153,7 +154,13 @@ fn is_named(alloc: Global, scope: &LinkedScope<'_>, step: &Step, child_element: 
 {
     match &step.name {
         NameTest::Any => true,
-        NameTest::Named { uri, local } => is_named_so(alloc, scope, uri, local, child_element),
+        NameTest::Named { uri, local } => has_expanded_name(
+            alloc,
+            scope,
+            uri,
+            local,
+            child_element,
+        ),
     }
 }
 
@@ -167,20 +174,21 @@ fn has_value(test: &AttrTest, attrs: &[Attr]) -> bool
 // Whether an element has an attribute that passes the test, in the scope around it. Values are
 // compared first, since few elements have the value.
 #[tactic(auto, using(crate::proofs::ValueTests::none_valued))]
-fn has_tested(
+fn passes_test_inside(
     alloc: Global,
     scope: &LinkedScope<'_>,
     test: &AttrTest,
     child_element: &Element,
 ) -> bool
     ensures exact { result
-        ≡ has_asked (inside scope.now child_element.now) (Some test.now) child_element.now.attrs }
+        ≡ some_attr_passes (inside scope.now child_element.now)
+        (Some test.now) child_element.now.attrs }
 {
     if !has_value(test, child_element.attrs()) {
         return false;
     }
-    let declared = declared_in(alloc, child_element.decls());
-    has_asked(&(&*scope).inside(&declared), test, child_element.attrs())
+    let declared = index_decls(alloc, child_element.decls());
+    some_attr_passes(&(&*scope).inside(&declared), test, child_element.attrs())
 }
 
 // Whether an element passes a step's attribute test, in the scope around it.
@@ -189,15 +197,15 @@ fn is_tested(alloc: Global, scope: &LinkedScope<'_>, step: &Step, child_element:
 {
     match &step.test {
         None => true,
-        Some(test) => has_tested(alloc, scope, test, child_element),
+        Some(test) => passes_test_inside(alloc, scope, test, child_element),
     }
 }
 
 // Whether some attribute passes the test.
-fn has_asked(scope: &LinkedScope<'_>, test: &AttrTest, attrs: &[Attr]) -> bool
-    ensures exact { result ≡ has_asked scope.now (Some test.now) attrs.now }
+fn some_attr_passes(scope: &LinkedScope<'_>, test: &AttrTest, attrs: &[Attr]) -> bool
+    ensures exact { result ≡ some_attr_passes scope.now (Some test.now) attrs.now }
 {
-    attrs.iter().any(|attr| is_asked(scope, test, attr))
+    attrs.iter().any(|attr| passes_attr_test(scope, test, attr))
 }
 
 /// Whether a child with `before` matching names before it is at the position.
@@ -252,7 +260,7 @@ fn is_match_if(
     named && (is_at_position(step.position, before) && is_tested(alloc, scope, step, child_element))
 }
 
-fn count(before: u64, more: bool) -> u64
+fn add_match(before: u64, more: bool) -> u64
     requires { before + 1 < 2 ^ 64 }
     ensures counts_one_more { result ≡ before + cond more 1 0 }
 {
@@ -261,7 +269,7 @@ fn count(before: u64, more: bool) -> u64
 
 // The number of the one child element that a step matches, found by counting the children of the
 // step's name.
-fn select_counted(
+fn select_by_position(
     alloc: Global,
     scope: &LinkedScope<'_>,
     step: &Step,
@@ -281,7 +289,7 @@ fn select_counted(
                 }
                 found = Some(i);
             }
-            before = count(before, named);
+            before = add_match(before, named);
             i += 1;
         }
     }
@@ -290,7 +298,7 @@ fn select_counted(
 
 // Whether an element matches a step without a position, in the scope around it. The attribute is
 // tested before the name, since it rules out most children.
-fn is_match_anywhere(
+fn is_match_without_position(
     alloc: Global,
     scope: &LinkedScope<'_>,
     step: &Step,
@@ -305,7 +313,7 @@ fn is_match_anywhere(
 }
 
 // The number of the one child element that a step without a position matches.
-fn select_anywhere(
+fn select_without_position(
     alloc: Global,
     scope: &LinkedScope<'_>,
     step: &Step,
@@ -318,7 +326,7 @@ fn select_anywhere(
     let mut i: usize = 0;
     for node in element.nodes() {
         if let Node::Elem(child_element) = node {
-            if is_match_anywhere(alloc, scope, step, child_element) {
+            if is_match_without_position(alloc, scope, step, child_element) {
                 if found.is_some() {
                     return None; // one of several is none
                 }
@@ -341,14 +349,19 @@ pub(crate) fn select_child(
     ensures exact { result ≡ selected_child scope.now step.now (child_elements_of element.now) }
 {
     match step.position {
-        None => select_anywhere(alloc, scope, step, element),
-        Some(_) => select_counted(alloc, scope, step, element),
+        None => select_without_position(alloc, scope, step, element),
+        Some(_) => select_by_position(alloc, scope, step, element),
     }
 }
 
 impl Step {
     /// Whether a child has the name of the step, in the scope around it. Does not allocate.
-    pub fn names(&self, alloc: Global, scope: &LinkedScope<'_>, child_element: &Element) -> bool
+    pub fn matches_name(
+        &self,
+        alloc: Global,
+        scope: &LinkedScope<'_>,
+        child_element: &Element,
+    ) -> bool
         ensures passes_name_test { result ≡ is_named scope.now self.now child_element.now }
     {
         is_named(alloc, scope, self, child_element)
@@ -356,7 +369,12 @@ impl Step {
 
     /// Whether a child has the attribute of the step's test, in the scope around it. Allocates as
     /// `find_attr` does.
-    pub fn tests(&self, alloc: Global, scope: &LinkedScope<'_>, child_element: &Element) -> bool
+    pub fn matches_test(
+        &self,
+        alloc: Global,
+        scope: &LinkedScope<'_>,
+        child_element: &Element,
+    ) -> bool
         ensures passes_attribute_test { result ≡ is_tested scope.now self.now child_element.now }
     {
         is_tested(alloc, scope, self, child_element)
@@ -365,17 +383,17 @@ impl Step {
 
 /// The first attribute of this namespace and local name, in the scope that ends with the
 /// declarations of their element. Does not allocate.
-pub fn attr_in<'a>(
+pub fn find_attr_in<'a>(
     scope: &LinkedScope<'_>,
     attrs: &'a [Attr],
     uri: &str,
     local: &str,
 ) -> Option<&'a Attr>
     ensures exact { option_copied result
-        ≡ find (is_attr scope.now (chars uri.now) (chars local.now)) attrs.now }
+        ≡ find (is_attr_named scope.now (chars uri.now) (chars local.now)) attrs.now }
 {
     for attr in attrs {
-        if is_attr(scope, uri, local, attr) {
+        if is_attr_named(scope, uri, local, attr) {
             return Some(attr);
         }
     }

@@ -4,24 +4,24 @@ ghost use Rattle.std.specs.Prelude.{OnOk, Ok};
 ghost use Rattle.xml_grammar.specs.Digits.{decimal_digits};
 ghost use Rattle.std.specs.Str.{bytes_eq};
 ghost use Rattle.xml_grammar.specs.TextReading.{read_sequence};
-ghost use Rattle.xml_grammar.specs.readers.Functions.{read_optional};
-ghost use Rattle.xml_tokens.specs.readers.Results.{Gives};
-ghost use Rattle.xml_tokens.specs.readers.TokenViews.{name_in};
+ghost use Rattle.xml_grammar.specs.readers.RuleReaders.{read_optional};
+ghost use Rattle.xml_tokens.specs.readers.ReadResults.{IsSameResult};
+ghost use Rattle.xml_tokens.specs.readers.TokenViews.{raw_name_view};
 ghost use Rattle.node_select.specs.Grammar.{position_of, is_attribute_name};
 ghost use Rattle.node_select.specs.readers.Selectors.{position_follows, read_attribute};
 ghost use Rattle.node_select.specs.readers.Selectors.{read_inside_quotes, read_next_step};
 ghost use Rattle.node_select.specs.readers.Selectors.{read_node_name, read_position, read_step};
 ghost use Rattle.node_select.specs.readers.Selectors.{read_steps, read_test, read_value};
 ghost use Rattle.node_select.specs.readers.Selectors.{slash_follows, test_follows};
-ghost use Rattle.node_select.specs.readers.Views.{follows_in, step_in, test_in};
+ghost use Rattle.node_select.specs.readers.Views.{step_follows_in, step_view, test_view};
 
 use crate::raw_selectors::{Form, RawStep, RawTest};
 use std::alloc::{AllocError, Global};
-use xml_grammar::{count_before, is_first, split_first};
-use xml_names::{Text, is_xmlns};
+use xml_grammar::{count_before, split_first, starts_with_char};
+use xml_names::{Text, is_xmlns_prefix};
 use xml_tokens::{
-    ParseError, RawName, digits, no_text, qname, quote, raw_run, reference, reference_follows,
-    starts, word,
+    ParseError, RawName, digits, empty_text, qname, quote, raw_run, reference, reference_follows,
+    starts_with_word, word,
 };
 
 /// The greatest position; a greater one is read as 0.
@@ -29,10 +29,10 @@ pub const MAX_POSITION: u64 = 4_294_967_295;
 
 // A name, or none for `*`, and what follows it.
 fn node_name(text: &str) -> Result<(Option<RawName<'_>>, &str), ParseError<'_>>
-    ensures reads_rule { Gives (λ x. (option_map name_in x.0, chars x.1.now)) result
+    ensures reads_rule { IsSameResult (λ x. (option_map raw_name_view x.0, chars x.1.now)) result
         (read_node_name (chars text.now)) }
 {
-    if is_first(text, '*') {
+    if starts_with_char(text, '*') {
         let rest = word(text, &['*'])?;
         return Ok((None, rest));
     }
@@ -66,7 +66,8 @@ fn position_value(digits: &str) -> u64
 
 /// A position in brackets, and what follows it.
 pub fn position(text: &str) -> Result<(u64, &str), ParseError<'_>>
-    ensures reads_rule { Gives (λ x. (x.0, chars x.1.now)) result (read_position (chars text.now)) }
+    ensures reads_rule { IsSameResult (λ x. (x.0, chars x.1.now)) result
+        (read_position (chars text.now)) }
 {
     let rest = word(text, &['['])?;
     let (digits, rest) = digits(rest)?;
@@ -78,12 +79,12 @@ pub fn position(text: &str) -> Result<(u64, &str), ParseError<'_>>
 fn position_follows(text: &str) -> bool
     ensures exact { result ≡ position_follows (chars text.now) }
 {
-    is_first(text, '[') && !starts(text, &['[', '@'])
+    starts_with_char(text, '[') && !starts_with_word(text, &['[', '@'])
 }
 
 // A position, if one follows, and what follows it.
 fn optional_position(text: &str) -> Result<(Option<u64>, &str), ParseError<'_>>
-    ensures reads_rule { Gives (λ x. (x.0, chars x.1.now)) result
+    ensures reads_rule { IsSameResult (λ x. (x.0, chars x.1.now)) result
         (read_optional position_follows read_position (chars text.now)) }
 {
     if !position_follows(text) {
@@ -94,7 +95,7 @@ fn optional_position(text: &str) -> Result<(Option<u64>, &str), ParseError<'_>>
 }
 
 // Whether a text is empty.
-fn is_nothing(text: &str) -> bool
+fn is_empty_text(text: &str) -> bool
     ensures exact { result ≡ bytes_eq (chars text.now) [] }
 {
     match split_first(text) {
@@ -105,14 +106,14 @@ fn is_nothing(text: &str) -> bool
 
 // Whether an attribute may have this name, which isn't a declaration's.
 fn is_attribute_name(name: &RawName<'_>) -> bool
-    ensures exact { result ≡ is_attribute_name (name_in name.now) }
+    ensures exact { result ≡ is_attribute_name (raw_name_view name.now) }
 {
-    !(is_nothing(name.prefix) && is_xmlns(name.local))
+    !(is_empty_text(name.prefix) && is_xmlns_prefix(name.local))
 }
 
 /// `@` and the name of an attribute, and what follows them.
 pub fn attribute(text: &str) -> Result<(RawName<'_>, &str), ParseError<'_>>
-    ensures reads_rule { Gives (λ x. (name_in x.0, chars x.1.now)) result
+    ensures reads_rule { IsSameResult (λ x. (raw_name_view x.0, chars x.1.now)) result
         (read_attribute (chars text.now)) }
 {
     let rest = word(text, &['@'])?;
@@ -133,10 +134,10 @@ fn push_piece(value: &mut Text, c: char, run: &str) -> Result<(), AllocError>
 
 // A value up to its quote, and what follows it.
 fn inside_quotes(alloc: Global, text: &str, quote: char) -> Result<(Text, &str), ParseError<'_>>
-    ensures reads_rule { Gives (λ x. (x.0, chars x.1.now)) result
+    ensures reads_rule { IsSameResult (λ x. (x.0, chars x.1.now)) result
         (read_inside_quotes quote (chars text.now)) }
 {
-    let mut value = no_text(alloc);
+    let mut value = empty_text(alloc);
     let (first, start) = raw_run(text, quote);
     value.push_str(first)?;
     let mut rest = start;
@@ -154,7 +155,8 @@ fn inside_quotes(alloc: Global, text: &str, quote: char) -> Result<(Text, &str),
 
 // A value in quotes, and what follows it.
 fn value(alloc: Global, text: &str) -> Result<(Text, &str), ParseError<'_>>
-    ensures reads_rule { Gives (λ x. (x.0, chars x.1.now)) result (read_value (chars text.now)) }
+    ensures reads_rule { IsSameResult (λ x. (x.0, chars x.1.now)) result
+        (read_value (chars text.now)) }
 {
     let (quote, rest) = quote(text)?;
     let (value, rest) = inside_quotes(alloc, rest, quote)?;
@@ -164,7 +166,7 @@ fn value(alloc: Global, text: &str) -> Result<(Text, &str), ParseError<'_>>
 
 // A test in brackets, and what follows it.
 fn test(alloc: Global, text: &str) -> Result<(RawTest<'_>, &str), ParseError<'_>>
-    ensures reads_rule { Gives (λ x. (test_in x.0, chars x.1.now)) result
+    ensures reads_rule { IsSameResult (λ x. (test_view x.0, chars x.1.now)) result
         (read_test (chars text.now)) }
 {
     let rest = word(text, &['['])?;
@@ -179,12 +181,12 @@ fn test(alloc: Global, text: &str) -> Result<(RawTest<'_>, &str), ParseError<'_>
 pub fn test_follows(text: &str) -> bool
     ensures exact { result ≡ test_follows (chars text.now) }
 {
-    is_first(text, '[')
+    starts_with_char(text, '[')
 }
 
 // A test, if one follows, and what follows it.
 fn optional_test(alloc: Global, text: &str) -> Result<(Option<RawTest<'_>>, &str), ParseError<'_>>
-    ensures reads_rule { Gives (λ x. (option_map test_in x.0, chars x.1.now)) result
+    ensures reads_rule { IsSameResult (λ x. (option_map test_view x.0, chars x.1.now)) result
         (read_optional test_follows read_test (chars text.now)) }
 {
     if !test_follows(text) {
@@ -196,7 +198,8 @@ fn optional_test(alloc: Global, text: &str) -> Result<(Option<RawTest<'_>>, &str
 
 // The name and the position of a step, and what follows them.
 fn front(text: &str) -> Result<(Option<RawName<'_>>, Option<u64>, &str), ParseError<'_>>
-    ensures reads_rule { Gives (λ x. ((option_map name_in x.0, x.1), chars x.2.now)) result
+    ensures reads_rule { IsSameResult
+        (λ x. ((option_map raw_name_view x.0, x.1), chars x.2.now)) result
         (read_sequence read_node_name (λ _. read_optional position_follows read_position)
         (chars text.now)) }
 {
@@ -207,7 +210,7 @@ fn front(text: &str) -> Result<(Option<RawName<'_>>, Option<u64>, &str), ParseEr
 
 // A step, and what follows it.
 fn step(alloc: Global, text: &str) -> Result<(RawStep<'_>, &str), ParseError<'_>>
-    ensures reads_rule { Gives (λ x. (step_in x.0, chars x.1.now)) result
+    ensures reads_rule { IsSameResult (λ x. (step_view x.0, chars x.1.now)) result
         (read_step (chars text.now)) }
 {
     let (name, position, behind) = front(text)?;
@@ -226,7 +229,7 @@ fn step(alloc: Global, text: &str) -> Result<(RawStep<'_>, &str), ParseError<'_>
 
 // A step after a slash, and what follows it.
 fn next_step(alloc: Global, text: &str) -> Result<(RawStep<'_>, &str), ParseError<'_>>
-    ensures reads_rule { Gives (λ x. (step_in x.0, chars x.1.now)) result
+    ensures reads_rule { IsSameResult (λ x. (step_view x.0, chars x.1.now)) result
         (read_next_step (chars text.now)) }
 {
     let rest = word(text, &['/'])?;
@@ -235,7 +238,7 @@ fn next_step(alloc: Global, text: &str) -> Result<(RawStep<'_>, &str), ParseErro
 
 // Whether another step follows.
 fn step_follows(text: &str, form: Form) -> bool
-    ensures exact { result ≡ follows_in form (chars text.now) }
+    ensures exact { result ≡ step_follows_in form (chars text.now) }
 {
     match form {
         Form::Node => node_step_follows(text),
@@ -247,16 +250,16 @@ fn step_follows(text: &str, form: Form) -> bool
 pub fn slash_follows(text: &str) -> bool
     ensures exact { result ≡ slash_follows (chars text.now) }
 {
-    is_first(text, '/')
+    starts_with_char(text, '/')
 }
 
 // Whether a slash and another step follow, and no end of a selector.
 fn node_step_follows(text: &str) -> bool
-    ensures exact { result ≡ follows_in Form.Node (chars text.now) }
+    ensures exact { result ≡ step_follows_in Form.Node (chars text.now) }
 {
     slash_follows(text)
-        && !(starts(text, &['/', '@'])
-            || starts(
+        && !(starts_with_word(text, &['/', '@'])
+            || starts_with_word(
                 text,
                 &['/', 'n', 'a', 'm', 'e', 's', 'p', 'a', 'c', 'e', ':', ':'],
             ))
@@ -264,10 +267,11 @@ fn node_step_follows(text: &str) -> bool
 
 // Whether a slash and another step follow, and no end of a patch's selector.
 fn patch_step_follows(text: &str) -> bool
-    ensures exact { result ≡ follows_in Form.Patch (chars text.now) }
+    ensures exact { result ≡ step_follows_in Form.Patch (chars text.now) }
 {
     slash_follows(text)
-        && !(starts(text, &['/', '@']) || starts(text, &['/', 't', 'e', 'x', 't', '(']))
+        && !(starts_with_word(text, &['/', '@'])
+            || starts_with_word(text, &['/', 't', 'e', 'x', 't', '(']))
 }
 
 /// Steps, and what follows them.
@@ -276,8 +280,8 @@ pub fn steps(
     text: &str,
     form: Form,
 ) -> Result<(Vec<RawStep<'_>>, &str), ParseError<'_>>
-    ensures reads_rule { Gives (λ x. (map step_in x.0.items, chars x.1.now)) result
-        (read_steps (follows_in form) (chars text.now)) }
+    ensures reads_rule { IsSameResult (λ x. (map step_view x.0.items, chars x.1.now)) result
+        (read_steps (step_follows_in form) (chars text.now)) }
 {
     let mut steps = Vec::new(alloc);
     let (first, start) = step(alloc, text)?;

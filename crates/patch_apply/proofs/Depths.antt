@@ -13,8 +13,8 @@ use Rattle.xml_tree.specs.declared.tree.Node.TheVariants.{Elem, Chars, Comment}
 use Rattle.xml_tree.proofs.HeightLaws.{height-bounded, height-put_over}
 use Rattle.xml_tree.proofs.PlaceLaws.{at-changed, height-at}
 use Rattle.xml_tree.proofs.Places.{content_of-nodes_of}
-use Rattle.patch_rules.specs.PatchOperations.{with_attrs, within_depth}
-use Rattle.patch_apply.specs.inner.ByNodes.{nodes_height}
+use Rattle.patch_rules.specs.PatchOperations.{with_attrs, is_within_depth}
+use Rattle.patch_apply.specs.inner.ContentNodes.{nodes_height}
 
 -- ---- of nodes
 
@@ -70,7 +70,7 @@ there_after p f e t is = at-changed p f t ∙ ap (option_map f) is
 
 -- whether nodes that are put into an element fit is decided by the nodes alone
 pub exchanged_fit : (p : List ℕ) (i j : ℕ) (ns : List Node) (e t : Tree) → at p t ≡ Some e → height t ≤ 64
-    → within_depth (change_at p (exchange_nodes i j ns) t) ≡ nat_le (length p + suc (nodes_height ns)) 64
+    → is_within_depth (change_at p (exchange_nodes i j ns) t) ≡ nat_le (length p + suc (nodes_height ns)) 64
 exchanged_fit p i j ns e t is low =
     let f = exchange_nodes i j ns in let new = change_at p f t in
     let least = height-at p (f e) new (there_after p f e t is) in
@@ -79,18 +79,18 @@ exchanged_fit p i j ns e t is low =
 
 -- nodes without elements fit
 pub shallow_fit : (p : List ℕ) (i j : ℕ) (ns : List Node) (e t : Tree) → at p t ≡ Some e → height t ≤ 64 → nodes_height ns ≡ 0
-    → within_depth (change_at p (exchange_nodes i j ns) t) ≡ true
+    → is_within_depth (change_at p (exchange_nodes i j ns) t) ≡ true
 shallow_fit p i j ns e t is low flat = exchanged_fit p i j ns e t is low ∙ le-leb (length p + suc (nodes_height ns)) 64 (let deep = height-at p e t is in omega (arith, deep, low, flat))
 
 -- whether an element that replaces another fits is decided by the new element alone
-pub put_over_fits : (p : List ℕ) (w e t : Tree) → at p t ≡ Some e → height t ≤ 64 → within_depth (put_over p w t) ≡ nat_le (length p + height w) 64
+pub put_over_fits : (p : List ℕ) (w e t : Tree) → at p t ≡ Some e → height t ≤ 64 → is_within_depth (put_over p w t) ≡ nat_le (length p + height w) 64
 put_over_fits p w e t is low =
     let new = put_over p w t in
     let least = height-at p w new (there_after p (λ (x : Tree). w) e t is) in
     same_test (height new) (length p + height w) (height t) least (height-put_over p w e t is) low
 
 -- other attributes change no depth
-pub attrs_fit : (p : List ℕ) (f : List Attr → List Attr) (e t : Tree) → at p t ≡ Some e → height t ≤ 64 → within_depth (change_at p (with_attrs f) t) ≡ true
+pub attrs_fit : (p : List ℕ) (f : List Attr → List Attr) (e t : Tree) → at p t ≡ Some e → height t ≤ 64 → is_within_depth (change_at p (with_attrs f) t) ≡ true
 attrs_fit p f e t is low =
     let most = height-bounded p 0 (with_attrs f) e t is (omega arith) in
     le-leb (height (change_at p (with_attrs f) t)) 64 (let deep = height-at p e t is in omega (arith, most, deep, low))
@@ -105,19 +105,19 @@ pub some_if : (o : Option Tree) (P : Tree → Type 0) → IsSomeAnd o P → IsSo
 some_if None P h = absurd h
 some_if (Some e) P h = refl
 
-pub attrs_low : (p : List ℕ) (f : List Attr → List Attr) (t : Tree) → IsSome (at p t) → height t ≤ 64 → within_depth (change_at p (with_attrs f) t) ≡ true
+pub attrs_low : (p : List ℕ) (f : List Attr → List Attr) (t : Tree) → IsSome (at p t) → height t ≤ 64 → is_within_depth (change_at p (with_attrs f) t) ≡ true
 attrs_low p f t there low = let s = some_is (at p t) there in attrs_fit p f s.0 t s.1 low
 
-pub shallow_low : (p : List ℕ) (i j : ℕ) (ns : List Node) (t : Tree) → IsSome (at p t) → height t ≤ 64 → nodes_height ns ≡ 0 → within_depth (change_at p (exchange_nodes i j ns) t) ≡ true
+pub shallow_low : (p : List ℕ) (i j : ℕ) (ns : List Node) (t : Tree) → IsSome (at p t) → height t ≤ 64 → nodes_height ns ≡ 0 → is_within_depth (change_at p (exchange_nodes i j ns) t) ≡ true
 shallow_low p i j ns t there low flat = let s = some_is (at p t) there in shallow_fit p i j ns s.0 t s.1 low flat
 
-pub exchanged_low : (p : List ℕ) (i j : ℕ) (ns : List Node) (t : Tree) → IsSome (at p t) → height t ≤ 64 → within_depth (change_at p (exchange_nodes i j ns) t) ≡ nat_le (length p + suc (nodes_height ns)) 64
+pub exchanged_low : (p : List ℕ) (i j : ℕ) (ns : List Node) (t : Tree) → IsSome (at p t) → height t ≤ 64 → is_within_depth (change_at p (exchange_nodes i j ns) t) ≡ nat_le (length p + suc (nodes_height ns)) 64
 exchanged_low p i j ns t there low = let s = some_is (at p t) there in exchanged_fit p i j ns s.0 t s.1 low
 
-pub put_over_low : (p : List ℕ) (w t : Tree) → IsSome (at p t) → height t ≤ 64 → within_depth (put_over p w t) ≡ nat_le (length p + height w) 64
+pub put_over_low : (p : List ℕ) (w t : Tree) → IsSome (at p t) → height t ≤ 64 → is_within_depth (put_over p w t) ≡ nat_le (length p + height w) 64
 put_over_low p w t there low = let s = some_is (at p t) there in put_over_fits p w s.0 t s.1 low
 
 -- ---- the new tree is within the depth
 
-pub low_made : (new : Tree) → within_depth new ≡ true → height new ≤ 64
+pub low_made : (new : Tree) → is_within_depth new ≡ true → height new ≤ 64
 low_made new e = leb-true (height new) 64 e

@@ -13,7 +13,7 @@ use Rattle.xml_tree.specs.declared.tree.Node.{Node}
 use Rattle.xml_tree.proofs.PathLemmas.{with_there}
 use Rattle.patch_rules.specs.PatchOperations as words
 use Rattle.patch_rules.specs.PatchOperations.{selected_text}
-use Rattle.patch_apply.specs.inner.LocationViews.{Spots}
+use Rattle.patch_apply.specs.inner.LocationViews.{LocatesAs}
 use Rattle.patch_apply.specs.declared.locations.Location.TheVariants.{AtElement, AtAttr, AtText}
 
 -- ---- the first attribute that passes
@@ -39,19 +39,19 @@ is_past true n h = absurd (cc)
 is_past false n h = refl
 
 module _ (t e : Tree) (p : List ℕ) (there : at p t ≡ Some e) where
-  pub element_target : Spots t (Some (words.AtElement p)) (Some (AtElement p))
+  pub element_target : LocatesAs t (Some (words.AtElement p)) (Some (AtElement p))
   element_target = (ap is_some there, (words.AtElement p, refl, refl))
 
   pub scope_is : (c : List (List Decl)) → Some c ≡ option_map (λ (x : Tree). scope_at p t) (at p t) → c ≡ scope_at p t
   scope_is c is = let same : Some c ≡ Some (scope_at p t) = is ∙ ap (option_map (λ (x : Tree). scope_at p t)) there in cc
 
   module _ (f : Attr → Bool) where
-    pub no_attr : None ≡ position f e.attrs → Spots t (cond (list_any f e.attrs) (Some (words.AtAttr p f)) None) None
+    pub no_attr : None ≡ position f e.attrs → LocatesAs t (cond (list_any f e.attrs) (Some (words.AtAttr p f)) None) None
     no_attr none =
         let n = position_or_len f e.attrs in
         ap (λ b. cond b (Some (words.AtAttr p f)) None) (none_passes f e.attrs (ltb-false n (length e.attrs) (is_past (nat_lt n (length e.attrs)) n none)))
 
-    pub attr_spot : (i : ℕ) → Some i ≡ position f e.attrs → Spots t (cond (list_any f e.attrs) (Some (words.AtAttr p f)) None) (Some (AtAttr p i))
+    pub attr_spot : (i : ℕ) → Some i ≡ position f e.attrs → LocatesAs t (cond (list_any f e.attrs) (Some (words.AtAttr p f)) None) (Some (AtAttr p i))
     attr_spot i first =
         let n = position_or_len f e.attrs in
         let parts = cond_some (nat_lt n (length e.attrs)) n i (sym first) in
@@ -66,7 +66,7 @@ module _ (t e : Tree) (p : List ℕ) (there : at p t ≡ Some e) where
 
   -- the text at a position, by the nodes that are there
   pub text_spot : (position : Option ℕ) (ns : List Node) → ns ≡ nodes_of e.content → (i : ℕ) → Some i ≡ selected_text position ns → i < length ns
-      → Spots t (option_map (words.AtText p) (selected_text position (nodes_of e.content))) (Some (AtText p i))
+      → LocatesAs t (option_map (words.AtText p) (selected_text position (nodes_of e.content))) (Some (AtText p i))
   text_spot position ns same i is within = (
     with_there (at p t) (λ x. i < length (nodes_of x.content)) e there (subst (λ (l : List Node). i < length l) same within),
     (words.AtText p i, ap (option_map (words.AtText p)) (sym (is ∙ ap (selected_text position) same)), (refl, refl)),

@@ -1,6 +1,6 @@
 -- Operations and documents, one after another.
 use Rattle.std.proofs.Common.{◌≡◌, Bor, ℕ, zero, suc, ◌+◌, ◌<◌, min, List, [], ◌∷◌, length, map, get_or, drop, Option, Result, Ok, Err, refl, sym, ap, ◌∙◌, subst, add-one, arith}
-use Rattle.xml_names.specs.Memory.{Answered}
+use Rattle.xml_names.specs.ReadErrors.{ResultSatisfies}
 use Rattle.xml_names.specs.declared.read_error.ReadError.{ReadError}
 use Rattle.xml_names.specs.declared.read_error.ReadError.TheVariants as errors
 use Rattle.xml_names.specs.Limits.{u64_max}
@@ -8,12 +8,12 @@ use Rattle.xml_tree.specs.Tree.{Tree}
 use Rattle.xml_names.specs.declared.names.Decl.{Decl}
 use Rattle.patch_rules.specs.PatchOperations.{OperationError}
 use Rattle.patch_rules.specs.readers.AppliedOperations.{apply_operation}
-use Rattle.patch_rules.specs.Replay.{AtOperation, CopyFault, ReplicaContents, Now, DocumentOutcome, with_operation_number, operation_count, then_next, unless_missing}
-use Rattle.patch_rules.specs.readers.Replay.{apply_all, outcome_of_documents, outcome_of_document}
-use Rattle.patch_apply.specs.inner.Results.{AreGiven}
+use Rattle.patch_rules.specs.Replay.{AtOperation, ReplayFault, ReplicaContents, Now, DocumentOutcome, with_operation_number, operation_count, and_then_replay, continue_unless_missing}
+use Rattle.patch_rules.specs.readers.Replay.{apply_operations, outcome_of_documents, outcome_of_document}
+use Rattle.patch_apply.specs.inner.Results.{IsDocumentsResult}
 use Rattle.patch_apply.specs.Views.{operation_fault}
-use Rattle.patch_parse.specs.Views.{wrong_in}
-use Rattle.patch_apply.specs.inner.PrivateTypes.{fault_at}
+use Rattle.patch_parse.specs.Views.{error_view}
+use Rattle.patch_apply.specs.inner.OutcomeViews.{fault_of_operation}
 use Rattle.patch_apply.specs.declared.fault.ApplyFault.{ApplyFault}
 use Rattle.patch_parse.specs.declared.operation_error.OperationError.{OperationError as CodeWrong}
 use Rattle.patch_parse.specs.declared.operation_error.OperationError.TheVariants as wrongs
@@ -21,17 +21,17 @@ use Rattle.patch_parse.specs.declared.operation_error.OperationError.TheVariants
 -- ---- operations
 
 module _ (n : ℕ) (c : List (List Decl)) (o : Tree) (os : List Tree) (t : Tree) where
-  pub applied_next : (made : Tree) → apply_operation c o t ≡ Ok made → apply_all n c (o ∷ os) t ≡ apply_all (suc n) c os made
-  applied_next made e = ap (λ r. then_next (with_operation_number n r) (apply_all (suc n) c os)) e
+  pub applied_next : (made : Tree) → apply_operation c o t ≡ Ok made → apply_operations n c (o ∷ os) t ≡ apply_operations (suc n) c os made
+  applied_next made e = ap (λ r. and_then_replay (with_operation_number n r) (apply_operations (suc n) c os)) e
 
 -- ---- documents
 
 module _ (n : ℕ) (c : List (List Decl)) (d : Tree) (ds : List Tree) (held : ReplicaContents) where
   pub taken_next : (now : ReplicaContents) → outcome_of_document n c d held ≡ Ok (Now now) → outcome_of_documents n c (d ∷ ds) held ≡ outcome_of_documents (n + operation_count c d) c ds now
-  taken_next now e = ap (λ r. then_next r (λ turn. unless_missing turn (outcome_of_documents (n + operation_count c d) c ds))) e
+  taken_next now e = ap (λ r. and_then_replay r (λ turn. continue_unless_missing turn (outcome_of_documents (n + operation_count c d) c ds))) e
 
-  pub taken_fault : (f : CopyFault) → outcome_of_document n c d held ≡ Err f → outcome_of_documents n c (d ∷ ds) held ≡ Err f
-  taken_fault f e = ap (λ r. then_next r (λ turn. unless_missing turn (outcome_of_documents (n + operation_count c d) c ds))) e
+  pub taken_fault : (f : ReplayFault) → outcome_of_document n c d held ≡ Err f → outcome_of_documents n c (d ∷ ds) held ≡ Err f
+  taken_fault f e = ap (λ r. and_then_replay r (λ turn. continue_unless_missing turn (outcome_of_documents (n + operation_count c d) c ds))) e
 
 -- ---- an item of a list that is iterated over
 
@@ -49,7 +49,7 @@ some_item (y ∷ xs) some = omega arith
 
 -- ---- how a fault is reported
 
-pub told_at : (n : ℕ) (w : CodeWrong) → fault_at (min n u64_max) w ≡ operation_fault n (wrong_in w)
+pub told_at : (n : ℕ) (w : CodeWrong) → fault_of_operation (min n u64_max) w ≡ operation_fault n (error_view w)
 told_at n wrongs.Directive = refl
 told_at n wrongs.Prefix = refl
 told_at n wrongs.Unlocated = refl
@@ -65,25 +65,25 @@ one_more number m e = omega (arith, e)
 pub so_many : (before count n k : ℕ) → before ≡ min n u64_max → count ≡ k → min (before + count) u64_max ≡ min (n + k) u64_max
 so_many before count n k e is = omega (arith, e, is)
 
--- `AreGiven` also holds of an equal stated result
-pub tells_same : {X Y : Type 0} (view : X → Y) (a b : Result Y CopyFault) (r : Result X (ReadError ApplyFault)) → a ≡ b → Answered (AreGiven view a) r → Answered (AreGiven view b) r
-tells_same view a b r same h = subst (λ s. Answered (AreGiven view s) r) same h
+-- `IsDocumentsResult` also holds of an equal stated result
+pub tells_same : {X Y : Type 0} (view : X → Y) (a b : Result Y ReplayFault) (r : Result X (ReadError ApplyFault)) → a ≡ b → ResultSatisfies (IsDocumentsResult view a) r → ResultSatisfies (IsDocumentsResult view b) r
+tells_same view a b r same h = subst (λ s. ResultSatisfies (IsDocumentsResult view s) r) same h
 
-pub error_alike : {X Z Y : Type 0} (v : X → Y) (u : Z → Y) (a b : Result Y CopyFault) (e : ReadError ApplyFault) → a ≡ b → Answered (AreGiven v a) (Err e) → Answered (AreGiven u b) (Err e)
+pub error_alike : {X Z Y : Type 0} (v : X → Y) (u : Z → Y) (a b : Result Y ReplayFault) (e : ReadError ApplyFault) → a ≡ b → ResultSatisfies (IsDocumentsResult v a) (Err e) → ResultSatisfies (IsDocumentsResult u b) (Err e)
 error_alike v u a b (errors.Fault fault) same h = record { stated_fault = h.stated_fault; is = sym same ∙ h.is; told = h.told }
 error_alike v u a b errors.NoMemory same h = tt
 
 -- the error of an operation is reported with its number
-pub wrong_told : (n : ℕ) (stated : Result Tree OperationError) (w : CodeWrong) (told : ApplyFault) → stated ≡ Err (wrong_in w) → told ≡ fault_at (min (suc n) u64_max) w → Answered (AreGiven {X = Tree} (λ t. t) (with_operation_number n stated)) (Err (errors.Fault told))
-wrong_told n stated w told is same = record { stated_fault = AtOperation (suc n) (wrong_in w); is = ap (with_operation_number n) is; told = same ∙ told_at (suc n) w }
+pub wrong_told : (n : ℕ) (stated : Result Tree OperationError) (w : CodeWrong) (told : ApplyFault) → stated ≡ Err (error_view w) → told ≡ fault_of_operation (min (suc n) u64_max) w → ResultSatisfies (IsDocumentsResult {X = Tree} (λ t. t) (with_operation_number n stated)) (Err (errors.Fault told))
+wrong_told n stated w told is same = record { stated_fault = AtOperation (suc n) (error_view w); is = ap (with_operation_number n) is; told = same ∙ told_at (suc n) w }
 
 -- a fault of a document ends the documents after it
-pub turn_fault : {X Z : Type 0} (v : X → DocumentOutcome) (u : Z → Option ReplicaContents) (n : ℕ) (c : List (List Decl)) (d : Tree) (ds : List Tree) (held : ReplicaContents) (all : Result (Option ReplicaContents) CopyFault) (e : ReadError ApplyFault)
-    → all ≡ outcome_of_documents n c (d ∷ ds) held → Answered (AreGiven v (outcome_of_document n c d held)) (Err e) → Answered (AreGiven u all) (Err e)
+pub turn_fault : {X Z : Type 0} (v : X → DocumentOutcome) (u : Z → Option ReplicaContents) (n : ℕ) (c : List (List Decl)) (d : Tree) (ds : List Tree) (held : ReplicaContents) (all : Result (Option ReplicaContents) ReplayFault) (e : ReadError ApplyFault)
+    → all ≡ outcome_of_documents n c (d ∷ ds) held → ResultSatisfies (IsDocumentsResult v (outcome_of_document n c d held)) (Err e) → ResultSatisfies (IsDocumentsResult u all) (Err e)
 turn_fault v u n c d ds held all (errors.Fault fault) same h = record { stated_fault = h.stated_fault; is = same ∙ taken_fault n c d ds held h.stated_fault h.is; told = h.told }
 turn_fault v u n c d ds held all errors.NoMemory same h = tt
 
 -- a fault ends what comes after it
-pub fault_ends : {X Y Z W : Type 0} (v : X → Y) (u : Z → W) (a : Result Y CopyFault) (k : Y → Result W CopyFault) (e : ReadError ApplyFault) → Answered (AreGiven v a) (Err e) → Answered (AreGiven u (then_next a k)) (Err e)
-fault_ends v u a k (errors.Fault fault) h = record { stated_fault = h.stated_fault; is = ap (λ r. then_next r k) h.is; told = h.told }
+pub fault_ends : {X Y Z W : Type 0} (v : X → Y) (u : Z → W) (a : Result Y ReplayFault) (k : Y → Result W ReplayFault) (e : ReadError ApplyFault) → ResultSatisfies (IsDocumentsResult v a) (Err e) → ResultSatisfies (IsDocumentsResult u (and_then_replay a k)) (Err e)
+fault_ends v u a k (errors.Fault fault) h = record { stated_fault = h.stated_fault; is = ap (λ r. and_then_replay r k) h.is; told = h.told }
 fault_ends v u a k errors.NoMemory h = tt

@@ -6,7 +6,7 @@ use Rattle.xml_tree.specs.TreeScopes.{scope_around, scope_at}
 use Rattle.xml_tree.specs.Tree.{Content, Tree, at, child_elements, child_elements_of}
 use Rattle.xml_tree.proofs.PathLemmas.{at-snoc, final-snoc, front-snoc, from_there, kid_there}
 use Rattle.xml_tree.proofs.Places.{content_of-nodes_of, place_there}
-use Rattle.patch_rules.specs.PatchOperations.{nodes_at, own_place}
+use Rattle.patch_rules.specs.PatchOperations.{nodes_at, index_in_parent}
 
 some_before : {A : Type 0} (f : Tree → Option A) (o : Option Tree) → IsSome (option_and_then f o) → IsSome o
 some_before f None h = h
@@ -35,10 +35,10 @@ is_there (Some x) e h = cc
 pub nodes_are : (p : List ℕ) (t e : Tree) → at p t ≡ Some e → nodes_at p t ≡ nodes_of e.content
 nodes_are p t e is = ap (λ (o : Option Tree). unwrap_or (option_map (λ x. nodes_of x.content) o) []) is
 
-pub place_is : (path parent : List ℕ) (k : ℕ) (t e : Tree) → path ≡ parent ++ k ∷ [] → at parent t ≡ Some e → place k (nodes_of e.content) ≡ own_place path t
+pub place_is : (path parent : List ℕ) (k : ℕ) (t e : Tree) → path ≡ parent ++ k ∷ [] → at parent t ≡ Some e → place k (nodes_of e.content) ≡ index_in_parent path t
 place_is path parent k t e is there =
     sym (
-    ap (λ q. own_place q t) is ∙ (λ i. place (final-snoc parent k i) (nodes_at (front-snoc parent k i) t))
+    ap (λ q. index_in_parent q t) is ∙ (λ i. place (final-snoc parent k i) (nodes_at (front-snoc parent k i) t))
     ∙ ap (place k) (nodes_are parent t e there)
     )
 

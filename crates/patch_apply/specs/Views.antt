@@ -24,26 +24,26 @@ operation_fault n words.WrongNodes = faults.NodeTypes (min n u64_max)
 operation_fault n words.NoSpace = faults.Whitespace (min n u64_max)
 
 -- how a fault is reported
-abbrev pub apply_fault_of : replay.CopyFault → ApplyFault
+abbrev pub apply_fault_of : replay.ReplayFault → ApplyFault
 apply_fault_of replay.WrongDocument = faults.WrongDocument
 apply_fault_of (replay.WrongTag held wanted) = faults.WrongTag held wanted
 apply_fault_of (replay.AtOperation n wrong) = operation_fault n wrong
 
 -- ---- contents of a replica, and answers
 
-abbrev pub version_in : ReplicaVersion → List ℕ × Tree
-version_in h = (h.tag, h.root)
+abbrev pub version_view : ReplicaVersion → List ℕ × Tree
+version_view h = (h.tag, h.root)
 
-abbrev pub stored_in : Option ReplicaVersion → replay.ReplicaContents
-stored_in held = option_map version_in held
+abbrev pub replica_view : Option ReplicaVersion → replay.ReplicaContents
+replica_view held = option_map version_view held
 
 -- the replica's tree has at most as many levels as a document may have
 abbrev pub IsWithinLevels : replay.ReplicaContents → Type 0
 IsWithinLevels None = Unit {0}
 IsWithinLevels (Some h) = height h.1 ≤ MAX_LEVELS
 
-abbrev pub answer_in : Applied → replay.CopyAnswer
-answer_in answers.Same = replay.Same
-answer_in answers.Patched = replay.Patched
-answer_in answers.Removed = replay.Removed
-answer_in (answers.Fetch tag) = replay.Fetch tag
+abbrev pub answer_view : Applied → replay.ReplayAnswer
+answer_view answers.Same = replay.Same
+answer_view answers.Patched = replay.Patched
+answer_view answers.Removed = replay.Removed
+answer_view (answers.Fetch tag) = replay.Fetch tag

@@ -1,6 +1,6 @@
 -- What private functions and proofs use; no public contract cites it.
-pub mod ByNodes
+pub mod ActionResults
+pub mod ContentNodes
 pub mod LocationViews
-pub mod PrivateTypes
+pub mod OutcomeViews
 pub mod Results
-pub mod Stages

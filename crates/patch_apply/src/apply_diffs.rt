@@ -2,25 +2,25 @@
 ghost use Rattle.std.specs.Prelude.{◌≡◌, ◌<◌, ℕ, [], codes, IfOk, length, map, min, unwrap_or};
 ghost use Rattle.std.specs.Prelude.{is_some, if◌then◌else◌, OnOk};
 ghost use Rattle.std.specs.Option.{option_copied};
-ghost use Rattle.xml_names.specs.Memory.{Answered};
+ghost use Rattle.xml_names.specs.ReadErrors.{ResultSatisfies};
 ghost use Rattle.xml_tree.specs.declared.scope.TheConstants.{SCOPE_LIMIT};
 ghost use Rattle.xml_names.specs.Limits.{u64_max};
 ghost use Rattle.patch_rules.specs.PatchOperations.{plain_value};
-ghost use Rattle.patch_rules.specs.Replay.{Patched, Removed, is_all_mine, last_new};
+ghost use Rattle.patch_rules.specs.Replay.{Patched, Removed, are_all_mine, last_new_tag};
 ghost use Rattle.patch_rules.specs.Replay.{operation_count};
 ghost use Rattle.patch_rules.specs.readers.Replay.{outcome_of_documents, replay_outcome};
 ghost use Rattle.patch_rules.specs.readers.Replay.{outcome_of_document};
 ghost use Rattle.patch_rules.specs.Replay as words;
-ghost use Rattle.patch_laws.specs.ReplayLaws.{HoldsSound};
-ghost use Rattle.patch_apply.specs.ApplyAnswers.{Applies};
-ghost use Rattle.patch_apply.specs.inner.Results.{AppliesAs, AreGiven};
+ghost use Rattle.patch_laws.specs.ReplayLaws.{HasReplicaTree};
+ghost use Rattle.patch_apply.specs.ApplyAnswers.{IsApplyAnswer};
+ghost use Rattle.patch_apply.specs.inner.Results.{IsReplayResult, IsDocumentsResult};
 ghost use Rattle.patch_apply.specs.declared.document_outcomes.DocumentOutcome.{
   DocumentOutcome as TheTurn,
 };
 ghost use Rattle.xcap_uri.specs.PrintedNames.{is_name_of};
-ghost use Rattle.patch_parse.specs.Operations.{ours_in};
-ghost use Rattle.patch_apply.specs.Views.{IsWithinLevels, answer_in, stored_in};
-ghost use Rattle.patch_apply.specs.inner.PrivateTypes.{contents_in, turn_in};
+ghost use Rattle.patch_parse.specs.Operations.{operations_in_scope};
+ghost use Rattle.patch_apply.specs.Views.{IsWithinLevels, answer_view, replica_view};
+ghost use Rattle.patch_apply.specs.inner.OutcomeViews.{contents_view, outcome_view};
 
 use crate::diff_reader::Notice;
 use crate::document_ids::is_name_of;
@@ -28,32 +28,32 @@ use crate::document_outcomes::{DocumentDiff, DocumentOutcome, document_outcome, 
 use crate::fault::ApplyFault;
 use crate::replica::{Applied, Replica, ReplicaVersion, copy_replica_version};
 use doc_names::DocId;
-use patch_parse::{documents, new_tag, operations_in, plain_value, previous_tag};
+use patch_parse::{documents, new_tag, operations_of_document, plain_value, previous_tag};
 use std::alloc::{AllocError, Global};
 use xml_names::{ReadError, Text};
-use xml_tokens::no_text;
+use xml_tokens::empty_text;
 use xml_tree::{Element, Scope};
 
 // Whether a `document` of a diff document has this name.
 #[tactic(auto, using(patch_parse::proofs::Words::words))]
-fn is_mine(alloc: Global, doc: &DocId, document: &Element) -> Result<bool, AllocError>
+fn is_of_document(alloc: Global, doc: &DocId, document: &Element) -> Result<bool, AllocError>
     ensures ok { IfOk result
         (λ is. is ≡ is_name_of doc.now
         (unwrap_or (plain_value (codes "sel") document.now.attrs) [])) }
 {
     match plain_value(document.attrs(), "sel") {
         Some(sel) => is_name_of(alloc, doc, sel),
-        None => is_name_of(alloc, doc, &no_text(alloc)),
+        None => is_name_of(alloc, doc, &empty_text(alloc)),
     }
 }
 
 // Whether each `document` has this name.
-fn are_mine(alloc: Global, doc: &DocId, documents: &[&Element]) -> Result<bool, AllocError>
+fn are_of_document(alloc: Global, doc: &DocId, documents: &[&Element]) -> Result<bool, AllocError>
     ensures ok { IfOk result
-        (λ are. are ≡ is_all_mine (is_name_of doc.now) (map (λ x. x.now) documents.now)) }
+        (λ are. are ≡ are_all_mine (is_name_of doc.now) (map (λ x. x.now) documents.now)) }
 {
     for document in documents {
-        if !is_mine(alloc, doc, document)? {
+        if !is_of_document(alloc, doc, document)? {
             return Ok(false);
         }
     }
@@ -61,7 +61,7 @@ fn are_mine(alloc: Global, doc: &DocId, documents: &[&Element]) -> Result<bool, 
 }
 
 // The new etag of a `document`, or the one given where it has none.
-fn newer<'a>(last: Option<&'a Text>, document: &'a Element) -> Option<&'a Text>
+fn later_new_tag<'a>(last: Option<&'a Text>, document: &'a Element) -> Option<&'a Text>
     ensures newer_tag { unwrap_or (option_copied result) []
         ≡ unwrap_or (plain_value (codes "new-etag") document.now.attrs)
         (unwrap_or (option_copied last.entry) []) }
@@ -73,15 +73,15 @@ fn newer<'a>(last: Option<&'a Text>, document: &'a Element) -> Option<&'a Text>
 }
 
 // The last new etag among `document`s.
-fn last_new(alloc: Global, documents: &[&Element]) -> Result<Text, AllocError>
-    ensures ok { IfOk result (λ tag. tag ≡ last_new [] (map (λ x. x.now) documents.now)) }
+fn last_new_tag(alloc: Global, documents: &[&Element]) -> Result<Text, AllocError>
+    ensures ok { IfOk result (λ tag. tag ≡ last_new_tag [] (map (λ x. x.now) documents.now)) }
 {
     let mut last = None;
     for document in documents {
-        last = newer(last, document);
+        last = later_new_tag(last, document);
     }
     match last {
-        None => Ok(no_text(alloc)),
+        None => Ok(empty_text(alloc)),
         Some(tag) => tag.copy(alloc),
     }
 }
@@ -99,9 +99,10 @@ fn document_diff_of<'a>(
     ensures tag_after_diff { IfOk result
         (λ told. option_copied told.new ≡ plain_value (codes "new-etag") document.now.attrs) }
     ensures same_operations { IfOk result
-        (λ told. map (λ x. x.now) told.operations.items ≡ ours_in scope.now document.now) }
+        (λ told. map (λ x. x.now) told.operations.items
+        ≡ operations_in_scope scope.now document.now) }
 {
-    let operations = operations_in(alloc, scope, document)?;
+    let operations = operations_of_document(alloc, scope, document)?;
     Ok(DocumentDiff {
         previous: previous_tag(document),
         new: new_tag(document),
@@ -110,7 +111,7 @@ fn document_diff_of<'a>(
 }
 
 // The outcome of a `document` for a replica, and the number of its operations.
-fn turn_of(
+fn apply_document(
     alloc: Global,
     before: usize,
     scope: &Scope<'_>,
@@ -118,12 +119,13 @@ fn turn_of(
     held: &mut Option<ReplicaVersion>,
 ) -> Result<(DocumentOutcome, usize), ReadError<ApplyFault>>
     requires room_left { length scope.now < 66 }
-    requires height_bounded { IsWithinLevels (stored_in held.old) }
+    requires height_bounded { IsWithinLevels (replica_view held.old) }
     ensures as_specified { (n : ℕ) → before ≡ min n u64_max
-        → Answered (AreGiven {X = TheTurn × ℕ} (λ x. turn_in x.0 (stored_in held.new))
-        (outcome_of_document n scope.now document.now (stored_in held.old))) result }
+        → ResultSatisfies
+        (IsDocumentsResult {X = TheTurn × ℕ} (λ x. outcome_view x.0 (replica_view held.new))
+        (outcome_of_document n scope.now document.now (replica_view held.old))) result }
     ensures counts_operations { IfOk result (λ x. x.1 ≡ operation_count scope.now document.now) }
-    ensures within_levels { OnOk result (IsWithinLevels (stored_in held.new)) }
+    ensures within_levels { OnOk result (IsWithinLevels (replica_view held.new)) }
 {
     let here = scope.with(document.decls());
     let told = document_diff_of(alloc, &here, document)?;
@@ -140,16 +142,16 @@ fn outcome_of_documents(
     held: &mut Option<ReplicaVersion>,
 ) -> Result<DocumentOutcome, ReadError<ApplyFault>>
     requires room_left { length scope.now < 66 }
-    requires height_bounded { IsWithinLevels (stored_in held.old) }
-    ensures as_specified { Answered
-        (AreGiven (λ outcome. contents_in outcome (stored_in held.new))
+    requires height_bounded { IsWithinLevels (replica_view held.old) }
+    ensures as_specified { ResultSatisfies
+        (IsDocumentsResult (λ outcome. contents_view outcome (replica_view held.new))
         (outcome_of_documents 0 scope.now (map (λ x. x.now) documents.now)
-        (stored_in held.old))) result }
-    ensures within_levels { OnOk result (IsWithinLevels (stored_in held.new)) }
+        (replica_view held.old))) result }
+    ensures within_levels { OnOk result (IsWithinLevels (replica_view held.new)) }
 {
     let mut before = 0usize;
     for document in documents {
-        let (made, count) = turn_of(alloc, before, scope, document, held)?;
+        let (made, count) = apply_document(alloc, before, scope, document, held)?;
         match made {
             DocumentOutcome::Missing => return Ok(DocumentOutcome::Missing),
             DocumentOutcome::Updated => {}
@@ -160,9 +162,9 @@ fn outcome_of_documents(
 }
 
 // The answer where this is the replica afterwards.
-fn outcome_with(held: &Option<ReplicaVersion>) -> Applied
-    ensures patched_or_removed { answer_in result
-        ≡ (if is_some (stored_in held.now) then Patched else Removed) }
+fn applied_outcome(held: &Option<ReplicaVersion>) -> Applied
+    ensures patched_or_removed { answer_view result
+        ≡ (if is_some (replica_view held.now) then Patched else Removed) }
 {
     match held {
         None => Applied::Removed,
@@ -180,14 +182,14 @@ fn replay_documents(
     documents: &[&Element],
 ) -> Result<Applied, ReadError<ApplyFault>>
     requires diff_documents { map (λ x. x.now) documents.now ≡ words.documents notice.now }
-    requires height_bounded { IsWithinLevels (stored_in replica.old.held) }
+    requires height_bounded { IsWithinLevels (replica_view replica.old.held) }
     ensures same_document { replica.new.doc ≡ replica.old.doc }
-    ensures as_specified { AppliesAs
-        (replay_outcome (is_name_of replica.old.doc) notice.now (stored_in replica.old.held))
-        (stored_in replica.old.held) result (stored_in replica.new.held) }
-    ensures within_levels { IsWithinLevels (stored_in replica.new.held) }
+    ensures as_specified { IsReplayResult
+        (replay_outcome (is_name_of replica.old.doc) notice.now (replica_view replica.old.held))
+        (replica_view replica.old.held) result (replica_view replica.new.held) }
+    ensures within_levels { IsWithinLevels (replica_view replica.new.held) }
 {
-    let mine = are_mine(alloc, &replica.doc, documents)?;
+    let mine = are_of_document(alloc, &replica.doc, documents)?;
     if !mine {
         return Err(ReadError::Fault(ApplyFault::WrongDocument));
     }
@@ -200,11 +202,11 @@ fn replay_documents(
     match outcome {
         DocumentOutcome::Missing => {
             drop(held);
-            let tag = last_new(alloc, documents)?;
+            let tag = last_new_tag(alloc, documents)?;
             Ok(Applied::Fetch(tag))
         }
         DocumentOutcome::Updated => {
-            let answer = outcome_with(&held);
+            let answer = applied_outcome(&held);
             replica.held = held;
             Ok(answer)
         }
@@ -217,12 +219,12 @@ fn replay(
     replica: &mut Replica,
     notice: &Element,
 ) -> Result<Applied, ReadError<ApplyFault>>
-    requires height_bounded { IsWithinLevels (stored_in replica.old.held) }
+    requires height_bounded { IsWithinLevels (replica_view replica.old.held) }
     ensures same_document { replica.new.doc ≡ replica.old.doc }
-    ensures as_specified { AppliesAs
-        (replay_outcome (is_name_of replica.old.doc) notice.now (stored_in replica.old.held))
-        (stored_in replica.old.held) result (stored_in replica.new.held) }
-    ensures within_levels { IsWithinLevels (stored_in replica.new.held) }
+    ensures as_specified { IsReplayResult
+        (replay_outcome (is_name_of replica.old.doc) notice.now (replica_view replica.old.held))
+        (replica_view replica.old.held) result (replica_view replica.new.held) }
+    ensures within_levels { IsWithinLevels (replica_view replica.new.held) }
 {
     let documents = documents(alloc, notice)?;
     replay_documents(alloc, replica, notice, &documents)
@@ -241,13 +243,13 @@ pub fn apply_notice(
     replica: &mut Replica,
     notice: &Notice,
 ) -> Result<Applied, ReadError<ApplyFault>>
-    requires height_bounded { IsWithinLevels (stored_in replica.old.held) }
+    requires height_bounded { IsWithinLevels (replica_view replica.old.held) }
     ensures same_document { replica.new.doc ≡ replica.old.doc }
-    ensures as_specified { Applies (is_name_of replica.old.doc) notice.now
-        (stored_in replica.old.held) result (stored_in replica.new.held) }
-    ensures within_levels { IsWithinLevels (stored_in replica.new.held) }
-    ensures stays_sound { HoldsSound (stored_in replica.old.held)
-        → HoldsSound (stored_in replica.new.held) }
+    ensures as_specified { IsApplyAnswer (is_name_of replica.old.doc) notice.now
+        (replica_view replica.old.held) result (replica_view replica.new.held) }
+    ensures within_levels { IsWithinLevels (replica_view replica.new.held) }
+    ensures stays_sound { HasReplicaTree (replica_view replica.old.held)
+        → HasReplicaTree (replica_view replica.new.held) }
 {
     replay(alloc, replica, notice.root())
 }

@@ -1,9 +1,9 @@
 //! Edits of attributes and texts by operations, in place.
 ghost use Rattle.std.specs.Prelude.{◌≡◌, ◌≤◌, ◌<◌, ◌++◌, ◌∷◌, [], Bool, List, length, remove};
 ghost use Rattle.std.specs.Prelude.{IsSome, IsSomeAnd, IfOk, OnOk};
-ghost use Rattle.xml_names.specs.Memory.{Answered};
+ghost use Rattle.xml_names.specs.ReadErrors.{ResultSatisfies};
 ghost use Rattle.xml_names.specs.declared.limits.TheConstants.{MAX_LEVELS};
-ghost use Rattle.xml_names.specs.Attributes.{with_value};
+ghost use Rattle.xml_names.specs.Attributes.{with_value_at};
 ghost use Rattle.xml_tree.specs.Edits.{change_at};
 ghost use Rattle.xml_names.specs.ExpandedNames.{attr_name, same_expanded};
 ghost use Rattle.xml_tree.specs.Nodes.{nodes_of, text_node};
@@ -13,11 +13,11 @@ ghost use Rattle.xml_names.specs.declared.names.Decl.{Decl};
 ghost use Rattle.patch_rules.specs.PatchOperations.{new_attr_result, remove_result, replace_result};
 ghost use Rattle.patch_rules.specs.PatchOperations.{with_attrs, has_attr_named};
 ghost use Rattle.patch_rules.specs.PatchOperations as spots;
-ghost use Rattle.patch_apply.specs.inner.Results.{EditsAs};
-ghost use Rattle.patch_apply.specs.inner.Stages.{drop_attr_result, set_attr_result};
+ghost use Rattle.patch_apply.specs.inner.Results.{IsEditResult};
+ghost use Rattle.patch_apply.specs.inner.ActionResults.{drop_attr_result, set_attr_result};
 
-use crate::edits::exchange_one;
-use patch_parse::{OperationError, attr_alike, has_attr, is_bare, value_in};
+use crate::edits::exchange_node_at;
+use patch_parse::{OperationError, attr_names_agree, content_value, has_attr, has_only_comments};
 use std::alloc::{AllocError, Global};
 use xml_names::{Attr, Name, ReadError, Text};
 use xml_tree::{Element, Node, Path, Scope, element_at};
@@ -25,7 +25,7 @@ use xml_tree::{Element, Node, Path, Scope, element_at};
 // ---- edits
 
 // Adds an attribute to the element at a path.
-fn push_at(tree: &mut Element, path: &Path, attr: Attr) -> Result<(), AllocError>
+fn push_attribute_at(tree: &mut Element, path: &Path, attr: Attr) -> Result<(), AllocError>
     requires { IsSome (at path.now tree.old) }
     ensures tree_changed { OnOk result
         (tree.new ≡ change_at path.now (with_attrs (λ ats. ats ++ attr ∷ [])) tree.old) }
@@ -40,16 +40,16 @@ fn push_at(tree: &mut Element, path: &Path, attr: Attr) -> Result<(), AllocError
 }
 
 // Replaces the value of an attribute of the element at a path.
-fn write_at(tree: &mut Element, path: &Path, place: usize, value: Text)
+fn set_attribute_at(tree: &mut Element, path: &Path, place: usize, value: Text)
     requires { IsSomeAnd (at path.now tree.old) (λ e. place < length e.attrs) }
     ensures tree_changed { tree.new
-        ≡ change_at path.now (with_attrs (with_value place value)) tree.old }
+        ≡ change_at path.now (with_attrs (with_value_at place value)) tree.old }
 {
     tree.edit_at(
         path,
         |here: &mut Element|
             requires { place < length here.old.attrs }
-            ensures here_changed { here.new ≡ with_attrs (with_value place value) here.old }
+            ensures here_changed { here.new ≡ with_attrs (with_value_at place value) here.old }
         {
             let _old = here.exchange_value(place, value);
         },
@@ -90,7 +90,7 @@ fn has_attr_at(here: &Scope<'_>, name: &Name, path: &Path, tree: &Element) -> bo
 }
 
 // Whether the name of an attribute means the same in the scope at the element of a path.
-fn attr_alike_at(here: &Scope<'_>, name: &Name, path: &Path, tree: &Element) -> bool
+fn attr_names_agree_at(here: &Scope<'_>, name: &Name, path: &Path, tree: &Element) -> bool
     requires { IsSome (at path.now tree.now) }
     ensures exact { result
         ≡ same_expanded (attr_name here.now name.now)
@@ -99,7 +99,7 @@ fn attr_alike_at(here: &Scope<'_>, name: &Name, path: &Path, tree: &Element) -> 
     let Some(there) = Scope::at(tree, path) else {
         unreachable!()
     };
-    attr_alike(here, &there, name)
+    attr_names_agree(here, &there, name)
 }
 
 /// Adds an attribute to the element at a path.
@@ -113,21 +113,22 @@ pub(crate) fn add_attr(
 ) -> Result<(), ReadError<OperationError>>
     requires place_exists { IsSome (at path.now tree.old) }
     requires height_bounded { height tree.old ≤ MAX_LEVELS }
-    ensures as_specified { Answered
-        (EditsAs (new_attr_result here.now name path.now operation.now.content tree.old) tree.new)
+    ensures as_specified { ResultSatisfies
+        (IsEditResult
+        (new_attr_result here.now name path.now operation.now.content tree.old) tree.new)
         result }
 {
-    let found = value_in(alloc, operation)?;
+    let found = content_value(alloc, operation)?;
     let Some(value) = found else {
         return Err(ReadError::Fault(OperationError::WrongNodes));
     };
     if has_attr_at(here, &name, path, tree) {
         return Err(ReadError::Fault(OperationError::WrongNodes));
     }
-    if !attr_alike_at(here, &name, path, tree) {
+    if !attr_names_agree_at(here, &name, path, tree) {
         return Err(ReadError::Fault(OperationError::Prefix));
     }
-    push_at(tree, path, Attr { name, value })?;
+    push_attribute_at(tree, path, Attr { name, value })?;
     Ok(())
 }
 
@@ -141,14 +142,15 @@ pub(crate) fn replace_attr(
 ) -> Result<(), ReadError<OperationError>>
     requires place_exists { IsSomeAnd (at path.now tree.old) (λ e. place < length e.attrs) }
     requires height_bounded { height tree.old ≤ MAX_LEVELS }
-    ensures as_specified { Answered
-        (EditsAs (set_attr_result path.now place operation.now.content tree.old) tree.new) result }
+    ensures as_specified { ResultSatisfies
+        (IsEditResult (set_attr_result path.now place operation.now.content tree.old) tree.new)
+        result }
 {
-    let found = value_in(alloc, operation)?;
+    let found = content_value(alloc, operation)?;
     let Some(value) = found else {
         return Err(ReadError::Fault(OperationError::WrongNodes));
     };
-    write_at(tree, path, place, value);
+    set_attribute_at(tree, path, place, value);
     Ok(())
 }
 
@@ -161,10 +163,11 @@ pub(crate) fn remove_attr(
 ) -> Result<(), ReadError<OperationError>>
     requires place_exists { IsSomeAnd (at path.now tree.old) (λ e. place < length e.attrs) }
     requires height_bounded { height tree.old ≤ MAX_LEVELS }
-    ensures as_specified { Answered
-        (EditsAs (drop_attr_result path.now place operation.now.content tree.old) tree.new) result }
+    ensures as_specified { ResultSatisfies
+        (IsEditResult (drop_attr_result path.now place operation.now.content tree.old) tree.new)
+        result }
 {
-    if !is_bare(operation) {
+    if !has_only_comments(operation) {
         return Err(ReadError::Fault(OperationError::WrongNodes));
     }
     remove_attribute_at(tree, path, place);
@@ -194,15 +197,15 @@ pub(crate) fn replace_text(
         (λ e. place < length (nodes_of e.content)) }
     requires height_bounded { height tree.old ≤ MAX_LEVELS }
     ensures as_specified { (c : List (List Decl))
-        → Answered (EditsAs (replace_result c
+        → ResultSatisfies (IsEditResult (replace_result c
         (spots.AtText path.now place) operation.now.content tree.old) tree.new) result }
 {
-    let found = value_in(alloc, operation)?;
+    let found = content_value(alloc, operation)?;
     let Some(value) = found else {
         return Err(ReadError::Fault(OperationError::WrongNodes));
     };
     let nodes = text_nodes(alloc, value)?;
-    exchange_one(tree, path, place, nodes)?;
+    exchange_node_at(tree, path, place, nodes)?;
     Ok(())
 }
 
@@ -218,12 +221,12 @@ pub(crate) fn remove_text(
         (λ e. place < length (nodes_of e.content)) }
     requires height_bounded { height tree.old ≤ MAX_LEVELS }
     ensures as_specified { (before after : Bool)
-        → Answered (EditsAs (remove_result before after
+        → ResultSatisfies (IsEditResult (remove_result before after
         (spots.AtText path.now place) operation.now.content tree.old) tree.new) result }
 {
-    if !is_bare(operation) {
+    if !has_only_comments(operation) {
         return Err(ReadError::Fault(OperationError::WrongNodes));
     }
-    exchange_one(tree, path, place, Vec::new(alloc))?;
+    exchange_node_at(tree, path, place, Vec::new(alloc))?;
     Ok(())
 }

@@ -1,7 +1,7 @@
 //! Reading diff documents.
 ghost use Rattle.std.specs.Prelude.{◌≡◌, []};
-ghost use Rattle.xml_tree.specs.Proper.{ProperIn};
-ghost use Rattle.xml_names.specs.Memory.{Answered};
+ghost use Rattle.xml_tree.specs.Proper.{IsProperTree};
+ghost use Rattle.xml_names.specs.ReadErrors.{ResultSatisfies};
 ghost use Rattle.patch_apply.specs.DiffTexts.{NoticeAnswer};
 
 use crate::fault::NoticeFault;
@@ -24,7 +24,7 @@ pub struct Notice {
 
 impl Model for Notice {
     ghost use Rattle.xml_tree.specs.Tree.{Tree};
-    ghost use Rattle.xml_tree.specs.inner.Codes.{tree_code};
+    ghost use Rattle.xml_tree.specs.inner.TreeCodes.{tree_code};
     ghost use Rattle.patch_apply.specs.DiffTexts.{IsNotice};
 
     ghost Value = { Tree };
@@ -40,7 +40,7 @@ impl Notice {
     // The root of the diff document.
     pub(crate) fn root(&self) -> &Element
         ensures exact { result.now ≡ self.now }
-        ensures is_proper { ProperIn [] result.now }
+        ensures is_proper { IsProperTree [] result.now }
     {
         &self.root
     }
@@ -53,7 +53,7 @@ impl Notice {
 /// # Errors
 /// `NotADiff` exactly where the bytes are no such document; `NoMemory` when out of memory.
 pub fn read_notice(alloc: Global, bytes: &[u8]) -> Result<Notice, ReadError<NoticeFault>>
-    ensures grammar_answer { Answered (NoticeAnswer bytes.now) result }
+    ensures grammar_answer { ResultSatisfies (NoticeAnswer bytes.now) result }
 {
     let root = match read_document(alloc, bytes, NOTICE_DEPTH) {
         Ok(root) => root,

@@ -1,20 +1,20 @@
 //! Names of documents, read back (RFC 4825, section 6.2; RFC 3986, section 2.1).
 ghost use Rattle.std.specs.Prelude.{◌≡◌, ◌∷◌, [], IfOk, Some, map, codes};
-ghost use Rattle.xcap_uri.specs.PrintedNames.{are_parts, is_name_of, is_part};
+ghost use Rattle.xcap_uri.specs.PrintedNames.{parts_decode_to, is_name_of, part_decodes_to};
 
 use doc_names::{DocId, Home};
 use percent_encoding::percent_decode;
 use std::alloc::{AllocError, Global};
-use xcap_uri::{cut, has_whole_escapes};
+use xcap_uri::{cut, has_complete_escapes};
 use xml_names::Text;
 
 // ---- one part
 
 // Whether a part of an address, its escapes decoded, is a text.
-fn is_part(alloc: Global, text: &str, part: &[u8]) -> Result<bool, AllocError>
-    ensures ok { IfOk result (λ is. is ≡ is_part text.now part.now) }
+fn part_decodes_to(alloc: Global, text: &str, part: &[u8]) -> Result<bool, AllocError>
+    ensures ok { IfOk result (λ is. is ≡ part_decodes_to text.now part.now) }
 {
-    if !has_whole_escapes(part) {
+    if !has_complete_escapes(part) {
         return Ok(false);
     }
     let mut octets = Vec::new(alloc);
@@ -25,9 +25,9 @@ fn is_part(alloc: Global, text: &str, part: &[u8]) -> Result<bool, AllocError>
 // ---- all parts
 
 // Whether the parts between the slashes of an address, decoded, are these texts, one for each.
-fn are_parts(alloc: Global, texts: &[&str], address: &[u8]) -> Result<bool, AllocError>
+fn parts_decode_to(alloc: Global, texts: &[&str], address: &[u8]) -> Result<bool, AllocError>
     ensures ok { IfOk result
-        (λ are. are ≡ are_parts (map (λ x. x.now) texts.now) (Some address.now)) }
+        (λ are. are ≡ parts_decode_to (map (λ x. x.now) texts.now) (Some address.now)) }
 {
     let mut rest = Some(address);
     for text in texts {
@@ -35,7 +35,7 @@ fn are_parts(alloc: Global, texts: &[&str], address: &[u8]) -> Result<bool, Allo
             return Ok(false);
         };
         let (part, behind) = cut(here, b'/');
-        if !is_part(alloc, text, part)? {
+        if !part_decodes_to(alloc, text, part)? {
             return Ok(false);
         }
         rest = behind;
@@ -44,20 +44,21 @@ fn are_parts(alloc: Global, texts: &[&str], address: &[u8]) -> Result<bool, Allo
 }
 
 // Whether an address is the one of a document under `global`.
-fn are_global_parts<'a>(
+fn is_global_address<'a>(
     alloc: Global,
     auid: &'a str,
     name: &'a str,
     address: &[u8],
 ) -> Result<bool, AllocError>
     ensures ok { IfOk result
-        (λ are. are ≡ are_parts (auid.now ∷ codes "global" ∷ name.now ∷ []) (Some address.now)) }
+        (λ are. are
+        ≡ parts_decode_to (auid.now ∷ codes "global" ∷ name.now ∷ []) (Some address.now)) }
 {
-    are_parts(alloc, &[auid, "global", name], address)
+    parts_decode_to(alloc, &[auid, "global", name], address)
 }
 
 // Whether an address is the one of a document under `users`.
-fn are_user_parts<'a>(
+fn is_user_address<'a>(
     alloc: Global,
     auid: &'a str,
     xui: &'a str,
@@ -65,10 +66,10 @@ fn are_user_parts<'a>(
     address: &[u8],
 ) -> Result<bool, AllocError>
     ensures ok { IfOk result
-        (λ are. are ≡ are_parts (auid.now ∷ codes "users" ∷ xui.now ∷ name.now ∷ [])
+        (λ are. are ≡ parts_decode_to (auid.now ∷ codes "users" ∷ xui.now ∷ name.now ∷ [])
         (Some address.now)) }
 {
-    are_parts(alloc, &[auid, "users", xui, name], address)
+    parts_decode_to(alloc, &[auid, "users", xui, name], address)
 }
 
 /// Whether a printed name, its parts decoded, is the name of a document.
@@ -78,7 +79,7 @@ pub(crate) fn is_name_of(alloc: Global, doc: &DocId, name: &Text) -> Result<bool
     let address = name.as_str().as_bytes();
     let auid = doc.auid.text();
     match &doc.home {
-        Home::Global => are_global_parts(alloc, auid, doc.name.as_str(), address),
-        Home::User(xui) => are_user_parts(alloc, auid, xui.as_str(), doc.name.as_str(), address),
+        Home::Global => is_global_address(alloc, auid, doc.name.as_str(), address),
+        Home::User(xui) => is_user_address(alloc, auid, xui.as_str(), doc.name.as_str(), address),
     }
 }

@@ -2,21 +2,21 @@
 ghost use Rattle.std.specs.Prelude.{◌≡◌, ◌≤◌, ◌<◌, ℕ, suc, min, map, length, Some, Result, Err};
 ghost use Rattle.std.specs.Prelude.{OnOk, false, bytes_eq};
 ghost use Rattle.std.specs.Option.{option_copied, option_map_or};
-ghost use Rattle.xml_names.specs.Memory.{Answered};
+ghost use Rattle.xml_names.specs.ReadErrors.{ResultSatisfies};
 ghost use Rattle.xml_tree.specs.declared.scope.TheConstants.{SCOPE_LIMIT};
 ghost use Rattle.xml_names.specs.Limits.{u64_max};
 ghost use Rattle.xml_names.specs.declared.limits.TheConstants.{MAX_LEVELS};
 ghost use Rattle.xml_tree.specs.Tree.{Tree, height};
 ghost use Rattle.patch_rules.specs.PatchOperations as words;
-ghost use Rattle.patch_rules.specs.Replay.{WrongTag, held_tag, with_operation_number};
-ghost use Rattle.patch_rules.specs.readers.Replay.{apply_all, outcome_by_previous_tag};
+ghost use Rattle.patch_rules.specs.Replay.{WrongTag, replica_tag, with_operation_number};
+ghost use Rattle.patch_rules.specs.readers.Replay.{apply_operations, outcome_by_previous_tag};
 ghost use Rattle.patch_rules.specs.readers.Replay.{change_outcome};
-ghost use Rattle.patch_rules.specs.readers.Replay.{renewed_copy};
-ghost use Rattle.patch_apply.specs.inner.Results.{AreGiven, EditsAs};
-ghost use Rattle.patch_apply.specs.Views.{IsWithinLevels, stored_in, version_in};
-ghost use Rattle.patch_apply.specs.inner.PrivateTypes.{counted_in, turn_in};
+ghost use Rattle.patch_rules.specs.readers.Replay.{renewed_contents};
+ghost use Rattle.patch_apply.specs.inner.Results.{IsDocumentsResult, IsEditResult};
+ghost use Rattle.patch_apply.specs.Views.{IsWithinLevels, replica_view, version_view};
+ghost use Rattle.patch_apply.specs.inner.OutcomeViews.{counted_operations, outcome_view};
 
-use crate::fault::{ApplyFault, fault_at};
+use crate::fault::{ApplyFault, fault_of_operation};
 use crate::operations::apply_operation;
 use crate::replica::ReplicaVersion;
 use patch_parse::{OperationError, is_body_unchanged};
@@ -44,20 +44,21 @@ pub struct DocumentDiff<'a> {
 // ---- operations
 
 // The fault of the operation of a number.
-fn error_at(error: ReadError<OperationError>, number: usize) -> ReadError<ApplyFault>
+fn numbered_error(error: ReadError<OperationError>, number: usize) -> ReadError<ApplyFault>
     ensures numbered_fault { (n : ℕ) (stated : Result Tree words.OperationError) (new : Tree)
-        → number ≡ min (suc n) u64_max → Answered (EditsAs stated new) (Err error)
-        → Answered (AreGiven {X = Tree} (λ t. t) (with_operation_number n stated)) (Err result) }
+        → number ≡ min (suc n) u64_max → ResultSatisfies (IsEditResult stated new) (Err error)
+        → ResultSatisfies (IsDocumentsResult {X = Tree} (λ t. t) (with_operation_number n stated))
+        (Err result) }
 {
     match error {
-        ReadError::Fault(wrong) => ReadError::Fault(fault_at(wrong, number)),
+        ReadError::Fault(wrong) => ReadError::Fault(fault_of_operation(wrong, number)),
         ReadError::NoMemory => ReadError::NoMemory,
     }
 }
 
 // Applies operations, one after another, to a tree; `before` operations of the diff document come
 // before them.
-fn apply_all(
+fn apply_operations(
     alloc: Global,
     before: usize,
     scope: &Scope<'_>,
@@ -67,8 +68,8 @@ fn apply_all(
     requires room_left { length scope.now < SCOPE_LIMIT }
     requires height_bounded { height tree.old ≤ MAX_LEVELS }
     ensures as_specified { (n : ℕ) → before ≡ min n u64_max
-        → Answered (AreGiven (λ _. tree.new)
-        (apply_all n scope.now (map (λ x. x.now) operations.now) tree.old)) result }
+        → ResultSatisfies (IsDocumentsResult (λ _. tree.new)
+        (apply_operations n scope.now (map (λ x. x.now) operations.now) tree.old)) result }
     ensures within_levels { OnOk result (height tree.new ≤ MAX_LEVELS) }
 {
     let mut number = before;
@@ -76,7 +77,7 @@ fn apply_all(
         number = number.saturating_add(1);
         match apply_operation(alloc, scope, operation, tree) {
             Ok(()) => {}
-            Err(error) => return Err(error_at(error, number)),
+            Err(error) => return Err(numbered_error(error, number)),
         }
     }
     Ok(())
@@ -85,9 +86,9 @@ fn apply_all(
 // ---- tags
 
 // Whether a tag is the replica's.
-fn is_tag(wanted: &Text, held: &Option<ReplicaVersion>) -> bool
+fn is_replica_tag(wanted: &Text, held: &Option<ReplicaVersion>) -> bool
     ensures exact { result
-        ≡ option_map_or (bytes_eq wanted.now) (held_tag (stored_in held.now)) false }
+        ≡ option_map_or (bytes_eq wanted.now) (replica_tag (replica_view held.now)) false }
 {
     match held {
         None => false,
@@ -97,9 +98,9 @@ fn is_tag(wanted: &Text, held: &Option<ReplicaVersion>) -> bool
 
 // The fault that the replica has another tag, or none.
 fn wrong_tag(alloc: Global, held: &Option<ReplicaVersion>, wanted: &Text) -> ReadError<ApplyFault>
-    ensures both_tags { Answered
-        (AreGiven {X = ℕ} {Y = ℕ} (λ x. x)
-        (Err (WrongTag (held_tag (stored_in held.now)) wanted.now))) (Err result) }
+    ensures both_tags { ResultSatisfies
+        (IsDocumentsResult {X = ℕ} {Y = ℕ} (λ x. x)
+        (Err (WrongTag (replica_tag (replica_view held.now)) wanted.now))) (Err result) }
 {
     let wanted = match wanted.copy(alloc) {
         Ok(wanted) => wanted,
@@ -131,9 +132,10 @@ fn change_outcome(
     requires room_left { length scope.now < SCOPE_LIMIT }
     requires height_bounded { height held.old.root ≤ MAX_LEVELS }
     ensures as_specified { (n : ℕ) → before ≡ min n u64_max
-        → Answered (AreGiven (λ outcome. turn_in outcome (Some (version_in held.new)))
+        → ResultSatisfies
+        (IsDocumentsResult (λ outcome. outcome_view outcome (Some (version_view held.new)))
         (change_outcome n scope.now (map (λ x. x.now) operations.now) tag.now
-        (Some (version_in held.old)))) result }
+        (Some (version_view held.old)))) result }
     ensures within_levels { OnOk result (height held.new.root ≤ MAX_LEVELS) }
 {
     if operations.is_empty() {
@@ -143,7 +145,7 @@ fn change_outcome(
     if is_body_unchanged(scope, operations) {
         return Ok(DocumentOutcome::Updated);
     }
-    apply_all(alloc, before, scope, operations, &mut held.root)?;
+    apply_operations(alloc, before, scope, operations, &mut held.root)?;
     Ok(DocumentOutcome::Updated)
 }
 
@@ -157,12 +159,13 @@ fn update_outcome(
     held: &mut Option<ReplicaVersion>,
 ) -> Result<DocumentOutcome, ReadError<ApplyFault>>
     requires room_left { length scope.now < SCOPE_LIMIT }
-    requires height_bounded { IsWithinLevels (stored_in held.old) }
+    requires height_bounded { IsWithinLevels (replica_view held.old) }
     ensures as_specified { (n : ℕ) → before ≡ min n u64_max
-        → Answered (AreGiven (λ outcome. turn_in outcome (stored_in held.new))
-        (renewed_copy n scope.now (map (λ x. x.now) operations.now) (option_copied tag.entry)
-        (stored_in held.old))) result }
-    ensures within_levels { OnOk result (IsWithinLevels (stored_in held.new)) }
+        → ResultSatisfies
+        (IsDocumentsResult (λ outcome. outcome_view outcome (replica_view held.new))
+        (renewed_contents n scope.now (map (λ x. x.now) operations.now) (option_copied tag.entry)
+        (replica_view held.old))) result }
+    ensures within_levels { OnOk result (IsWithinLevels (replica_view held.new)) }
 {
     let Some(tag) = tag else {
         *held = None;
@@ -184,18 +187,19 @@ pub(crate) fn document_outcome(
     held: &mut Option<ReplicaVersion>,
 ) -> Result<DocumentOutcome, ReadError<ApplyFault>>
     requires room_left { length scope.now < SCOPE_LIMIT }
-    requires height_bounded { IsWithinLevels (stored_in held.old) }
+    requires height_bounded { IsWithinLevels (replica_view held.old) }
     ensures as_specified { (n : ℕ) → before ≡ min n u64_max
-        → Answered (AreGiven (λ outcome. turn_in outcome (stored_in held.new))
+        → ResultSatisfies
+        (IsDocumentsResult (λ outcome. outcome_view outcome (replica_view held.new))
         (outcome_by_previous_tag n scope.now (map (λ x. x.now) told.now.operations.items)
-        (option_copied told.now.previous) (option_copied told.now.new) (stored_in held.old)))
+        (option_copied told.now.previous) (option_copied told.now.new) (replica_view held.old)))
         result }
-    ensures within_levels { OnOk result (IsWithinLevels (stored_in held.new)) }
+    ensures within_levels { OnOk result (IsWithinLevels (replica_view held.new)) }
 {
     let Some(previous) = told.previous else {
         return Ok(DocumentOutcome::Missing);
     };
-    if !is_tag(previous, held) {
+    if !is_replica_tag(previous, held) {
         return Err(wrong_tag(alloc, held, previous));
     }
     update_outcome(alloc, before, scope, &told.operations, told.new, held)
@@ -204,7 +208,7 @@ pub(crate) fn document_outcome(
 /// The number of operations, where `body-not-changed` is none.
 pub(crate) fn operation_count(scope: &Scope<'_>, operations: &[&Element]) -> usize
     requires { length scope.now < SCOPE_LIMIT }
-    ensures exact { result ≡ counted_in scope.now (map (λ x. x.now) operations.now) }
+    ensures exact { result ≡ counted_operations scope.now (map (λ x. x.now) operations.now) }
 {
     if is_body_unchanged(scope, operations) {
         return 0;

@@ -4,18 +4,19 @@ ghost use Rattle.std.specs.Prelude.{IsSomeAnd, OnOk};
 ghost use Rattle.xml_tree.specs.Edits.{change_at, parent_path};
 ghost use Rattle.xml_tree.specs.Nodes.{exchange_nodes, nodes_of};
 ghost use Rattle.xml_tree.specs.Tree.{at, height};
-ghost use Rattle.patch_rules.specs.PatchOperations.{is_below, means_alike, nodes_at, is_off_root};
-ghost use Rattle.patch_rules.specs.PatchOperations.{own_place};
+ghost use Rattle.patch_rules.specs.PatchOperations.{is_below_root, names_agree, nodes_at};
+ghost use Rattle.patch_rules.specs.PatchOperations.{is_not_beside_root};
+ghost use Rattle.patch_rules.specs.PatchOperations.{index_in_parent};
 ghost use Rattle.xml_tree.specs.TreeScopes.{scope_around, scope_at};
-ghost use Rattle.patch_apply.specs.inner.ByNodes.{nodes_height};
-ghost use Rattle.patch_apply.specs.inner.Stages.{gap_of, site_of};
-ghost use Rattle.patch_parse.specs.Views.{position_in};
+ghost use Rattle.patch_apply.specs.inner.ContentNodes.{nodes_height};
+ghost use Rattle.patch_apply.specs.inner.ActionResults.{insertion_place, insertion_path};
+ghost use Rattle.patch_parse.specs.Views.{position_view};
 
 use crate::nodes::{next_number, nodes_depth};
-use patch_parse::{Position, means_alike};
+use patch_parse::{Position, names_agree};
 use std::alloc::{AllocError, Global};
 use xml_names::MAX_LEVELS;
-use xml_tree::{Element, Node, Path, Scope, depth, element_at, place_of};
+use xml_tree::{Element, Node, Path, Scope, child_place, depth, element_at};
 
 // ---- places
 
@@ -32,7 +33,7 @@ pub(crate) fn place_in_parent(tree: &Element, path: &Path) -> InsertPosition
     requires below { 0 < length path.now }
     requires place_exists { IsSome (at path.now tree.now) }
     ensures path_of_parent { result.path ≡ parent_path path.now }
-    ensures place_in_nodes { result.place ≡ own_place path.now tree.now }
+    ensures place_in_nodes { result.place ≡ index_in_parent path.now tree.now }
     ensures within_nodes { IsSomeAnd (at result.path tree.now)
         (λ e. result.place < length (nodes_of e.content)) }
 {
@@ -42,7 +43,7 @@ pub(crate) fn place_in_parent(tree: &Element, path: &Path) -> InsertPosition
     let Some(element) = element_at(tree, &parent) else {
         unreachable!()
     };
-    let place = place_of(element.nodes(), child);
+    let place = child_place(element.nodes(), child);
     InsertPosition {
         path: parent,
         place,
@@ -74,8 +75,8 @@ fn node_count(tree: &Element, path: &Path) -> usize
 }
 
 /// Whether a path leads below the root.
-pub(crate) fn is_below(path: &Path) -> bool
-    ensures exact { result ≡ is_below path.now }
+pub(crate) fn is_below_root(path: &Path) -> bool
+    ensures exact { result ≡ is_below_root path.now }
 {
     match path.numbers() {
         [] => false,
@@ -84,23 +85,23 @@ pub(crate) fn is_below(path: &Path) -> bool
 }
 
 /// Whether content can be put at a position: not beside the root.
-pub(crate) fn is_off_root(position: Position, path: &Path) -> bool
-    ensures exact { result ≡ is_off_root (position_in position) path.now }
+pub(crate) fn is_not_beside_root(position: Position, path: &Path) -> bool
+    ensures exact { result ≡ is_not_beside_root (position_view position) path.now }
 {
     match position {
         Position::Behind => true,
         Position::Prepend => true,
-        Position::Before => is_below(path),
-        Position::After => is_below(path),
+        Position::Before => is_below_root(path),
+        Position::After => is_below_root(path),
     }
 }
 
 /// The place of content that is put at a position relative to an element.
-pub(crate) fn gap_of(position: Position, tree: &Element, path: Path) -> InsertPosition
+pub(crate) fn insertion_place(position: Position, tree: &Element, path: Path) -> InsertPosition
     requires place_exists { IsSome (at path tree.now) }
-    requires is_off_root { is_off_root (position_in position) path ≡ true }
-    ensures insert_path { result.path ≡ site_of (position_in position) path }
-    ensures insert_place { result.place ≡ gap_of (position_in position) path tree.now }
+    requires is_not_beside_root { is_not_beside_root (position_view position) path ≡ true }
+    ensures insert_path { result.path ≡ insertion_path (position_view position) path }
+    ensures insert_place { result.place ≡ insertion_place (position_view position) path tree.now }
     ensures within_nodes { IsSomeAnd (at result.path tree.now)
         (λ e. result.place ≤ length (nodes_of e.content)) }
 {
@@ -122,14 +123,14 @@ pub(crate) fn gap_of(position: Position, tree: &Element, path: Path) -> InsertPo
 // ---- depth
 
 /// Whether nodes fit into the element at a path, by their depth.
-pub(crate) fn may_hold(path: &Path, nodes: &[Node]) -> bool
+pub(crate) fn nodes_fit_depth(path: &Path, nodes: &[Node]) -> bool
     ensures exact { result ≡ nat_le (length path.now + suc (nodes_height nodes.now)) MAX_LEVELS }
 {
     nodes_depth(nodes).saturating_add(path.numbers().len() + 1) <= MAX_LEVELS
 }
 
 /// Whether an element fits at a path, by its depth.
-pub(crate) fn may_stand(path: &Path, element: &Element) -> bool
+pub(crate) fn element_fits_depth(path: &Path, element: &Element) -> bool
     ensures exact { result ≡ nat_le (length path.now + height element.now) MAX_LEVELS }
 {
     depth(element).saturating_add(path.numbers().len()) <= MAX_LEVELS
@@ -148,17 +149,17 @@ pub(crate) fn names_agree_at(
 ) -> bool
     requires place_exists { IsSome (at path.now tree.now) }
     ensures exact { result
-        ≡ means_alike here.now (scope_at path.now tree.now) operation.now.content }
+        ≡ names_agree here.now (scope_at path.now tree.now) operation.now.content }
 {
     let Some(there) = Scope::at(tree, path) else {
         unreachable!()
     };
-    means_alike(alloc, here, &there, operation)
+    names_agree(alloc, here, &there, operation)
 }
 
 /// Whether the names in an operation mean the same in the scope at it and in the scope around the
 /// element of a path.
-pub(crate) fn alike_around(
+pub(crate) fn names_agree_around(
     alloc: Global,
     here: &Scope<'_>,
     tree: &Element,
@@ -167,10 +168,10 @@ pub(crate) fn alike_around(
 ) -> bool
     requires place_exists { IsSome (at path.now tree.now) }
     ensures exact { result
-        ≡ means_alike here.now (scope_around path.now tree.now) operation.now.content }
+        ≡ names_agree here.now (scope_around path.now tree.now) operation.now.content }
 {
     match path.split_last() {
-        None => means_alike(alloc, here, &Scope::empty(), operation),
+        None => names_agree(alloc, here, &Scope::empty(), operation),
         Some((parent, _)) => names_agree_at(alloc, here, tree, &parent, operation),
     }
 }
@@ -178,7 +179,7 @@ pub(crate) fn alike_around(
 // ---- edits
 
 /// Replaces the nodes of the element at a path, from one number to before another.
-pub(crate) fn exchange_at(
+pub(crate) fn exchange_nodes_at(
     tree: &mut Element,
     path: &Path,
     from: usize,
@@ -202,7 +203,7 @@ pub(crate) fn exchange_at(
 }
 
 /// Replaces one node of the element at a path.
-pub(crate) fn exchange_one(
+pub(crate) fn exchange_node_at(
     tree: &mut Element,
     path: &Path,
     place: usize,
@@ -213,5 +214,5 @@ pub(crate) fn exchange_one(
         (tree.new ≡ change_at path.now (exchange_nodes place (suc place) nodes.items) tree.old) }
 {
     let behind = number_after(tree, path, place);
-    exchange_at(tree, path, place, behind, nodes)
+    exchange_nodes_at(tree, path, place, behind, nodes)
 }

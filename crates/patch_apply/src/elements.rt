@@ -1,23 +1,25 @@
 //! Edits of elements by operations, in place.
 ghost use Rattle.std.specs.Prelude.{◌≡◌, ◌≤◌, ◌<◌, ◌+◌, ◌-◌, suc, true, not, ◌||◌, length};
 ghost use Rattle.std.specs.Prelude.{slice_get, is_some, IsSome, IsSomeAnd, OnOk, if◌then◌else◌};
-ghost use Rattle.xml_names.specs.Memory.{Answered};
+ghost use Rattle.xml_names.specs.ReadErrors.{ResultSatisfies};
 ghost use Rattle.xml_names.specs.declared.limits.TheConstants.{MAX_LEVELS};
 ghost use Rattle.xml_tree.specs.Nodes.{nodes_of};
 ghost use Rattle.xml_tree.specs.Tree.{at, height};
 ghost use Rattle.patch_rules.specs.PatchOperations.{cut_nodes, is_space_at, nodes_at, put_result};
-ghost use Rattle.patch_rules.specs.PatchOperations.{remove_result, replace_result, space_before};
+ghost use Rattle.patch_rules.specs.PatchOperations.{remove_result, replace_result};
+ghost use Rattle.patch_rules.specs.PatchOperations.{has_space_before};
 ghost use Rattle.patch_rules.specs.PatchOperations as spots;
-ghost use Rattle.patch_apply.specs.inner.Results.{EditsAs};
-ghost use Rattle.patch_apply.specs.inner.Stages.{insert_result, has_space_beside};
-ghost use Rattle.patch_parse.specs.Views.{position_in};
+ghost use Rattle.patch_apply.specs.inner.Results.{IsEditResult};
+ghost use Rattle.patch_apply.specs.inner.ActionResults.{insert_result, has_space_beside};
+ghost use Rattle.patch_parse.specs.Views.{position_view};
 
 use crate::edits::{
-    InsertPosition, alike_around, exchange_at, gap_of, is_below, is_off_root, may_hold, may_stand,
-    names_agree_at, number_after, place_in_parent,
+    InsertPosition, element_fits_depth, exchange_nodes_at, insertion_place, is_below_root,
+    is_not_beside_root, names_agree_around, names_agree_at, nodes_fit_depth, number_after,
+    place_in_parent,
 };
 use crate::nodes::{is_space_at, is_space_before};
-use patch_parse::{OperationError, Position, is_bare, sole_element};
+use patch_parse::{OperationError, Position, has_only_comments, sole_element};
 use std::alloc::{AllocError, Global};
 use xml_names::ReadError;
 use xml_tree::{Element, Node, Path, Scope, copy_nodes, copy_tree, element_at};
@@ -43,23 +45,24 @@ pub(crate) fn put_content(
 ) -> Result<(), ReadError<OperationError>>
     requires place_exists { IsSome (at path tree.old) }
     requires height_bounded { height tree.old ≤ MAX_LEVELS }
-    ensures as_specified { Answered
-        (EditsAs (put_result here.now (position_in position) path operation.now.content tree.old)
+    ensures as_specified { ResultSatisfies
+        (IsEditResult
+        (put_result here.now (position_view position) path operation.now.content tree.old)
         tree.new) result }
 {
-    if !is_off_root(position, &path) {
+    if !is_not_beside_root(position, &path) {
         return Err(ReadError::Fault(OperationError::RootTouched));
     }
     if !has_nodes(operation) {
         return Err(ReadError::Fault(OperationError::WrongNodes));
     }
-    let gap = gap_of(position, tree, path);
-    put_in_gap(alloc, here, &gap, operation, tree)
+    let gap = insertion_place(position, tree, path);
+    insert_content(alloc, here, &gap, operation, tree)
 }
 
 // Puts the content of an operation at a place, where it isn't too deep and its names mean the same
 // there.
-fn put_in_gap(
+fn insert_content(
     alloc: Global,
     here: &Scope<'_>,
     gap: &InsertPosition,
@@ -69,19 +72,20 @@ fn put_in_gap(
     requires within { IsSomeAnd (at gap.now.path tree.old)
         (λ e. gap.now.place ≤ length (nodes_of e.content)) }
     requires height_bounded { height tree.old ≤ MAX_LEVELS }
-    ensures as_specified { Answered
-        (EditsAs (insert_result here.now gap.now.path gap.now.place operation.now.content tree.old)
+    ensures as_specified { ResultSatisfies
+        (IsEditResult
+        (insert_result here.now gap.now.path gap.now.place operation.now.content tree.old)
         tree.new) result }
 {
     let nodes = operation.nodes();
-    if !may_hold(&gap.path, nodes) {
+    if !nodes_fit_depth(&gap.path, nodes) {
         return Err(ReadError::Fault(OperationError::WrongNodes));
     }
     if !names_agree_at(alloc, here, tree, &gap.path, operation) {
         return Err(ReadError::Fault(OperationError::Prefix));
     }
     let copies = copy_nodes(alloc, nodes)?;
-    exchange_at(tree, &gap.path, gap.place, gap.place, copies)?;
+    exchange_nodes_at(tree, &gap.path, gap.place, gap.place, copies)?;
     Ok(())
 }
 
@@ -95,17 +99,18 @@ pub(crate) fn replace_element(
 ) -> Result<(), ReadError<OperationError>>
     requires place_exists { IsSome (at path.now tree.old) }
     requires height_bounded { height tree.old ≤ MAX_LEVELS }
-    ensures as_specified { Answered
-        (EditsAs (replace_result here.now (spots.AtElement path.now) operation.now.content tree.old)
+    ensures as_specified { ResultSatisfies
+        (IsEditResult
+        (replace_result here.now (spots.AtElement path.now) operation.now.content tree.old)
         tree.new) result }
 {
     let Some(new) = sole_element(operation) else {
         return Err(ReadError::Fault(OperationError::WrongNodes));
     };
-    if !may_stand(path, new) {
+    if !element_fits_depth(path, new) {
         return Err(ReadError::Fault(OperationError::WrongNodes));
     }
-    if !alike_around(alloc, here, tree, path, operation) {
+    if !names_agree_around(alloc, here, tree, path, operation) {
         return Err(ReadError::Fault(OperationError::Prefix));
     }
     let copy = copy_tree(alloc, new)?;
@@ -115,8 +120,8 @@ pub(crate) fn replace_element(
 }
 
 // Whether white space comes before the node of a number, if it is asked for.
-fn is_none_or_before(asked: bool, nodes: &[Node], place: usize) -> bool
-    ensures exact { result ≡ (not asked || space_before place nodes.now) }
+fn has_asked_space_before(asked: bool, nodes: &[Node], place: usize) -> bool
+    ensures exact { result ≡ (not asked || has_space_before place nodes.now) }
 {
     !asked || is_space_before(nodes, place)
 }
@@ -130,7 +135,7 @@ fn has_asked_space_after(asked: bool, nodes: &[Node], place: usize) -> bool
 }
 
 // Whether the white space that a removal asks for is beside the element.
-fn space_fits(tree: &Element, gap: &InsertPosition, before: bool, after: bool) -> bool
+fn has_requested_space(tree: &Element, gap: &InsertPosition, before: bool, after: bool) -> bool
     requires { IsSomeAnd (at gap.now.path tree.now)
         (λ e. gap.now.place < length (nodes_of e.content)) }
     ensures exact { result ≡ has_space_beside before after gap.now.path gap.now.place tree.now }
@@ -139,7 +144,8 @@ fn space_fits(tree: &Element, gap: &InsertPosition, before: bool, after: bool) -
         unreachable!()
     };
     let nodes = parent.nodes();
-    is_none_or_before(before, nodes, gap.place) && has_asked_space_after(after, nodes, gap.place)
+    has_asked_space_before(before, nodes, gap.place)
+        && has_asked_space_after(after, nodes, gap.place)
 }
 
 // The number after an element and, if it is asked for, the white space after it.
@@ -176,7 +182,7 @@ fn cut_with_space(
 {
     let from = gap.place - usize::from(before);
     let to = end_of_cut(tree, gap, after);
-    exchange_at(tree, &gap.path, from, to, Vec::new(alloc))
+    exchange_nodes_at(tree, &gap.path, from, to, Vec::new(alloc))
 }
 
 /// Removes the element at a path, with the white space that is asked for.
@@ -190,18 +196,18 @@ pub(crate) fn remove_element(
 ) -> Result<(), ReadError<OperationError>>
     requires place_exists { IsSome (at path.now tree.old) }
     requires height_bounded { height tree.old ≤ MAX_LEVELS }
-    ensures as_specified { Answered
-        (EditsAs (remove_result before after (spots.AtElement path.now) operation.now.content
+    ensures as_specified { ResultSatisfies
+        (IsEditResult (remove_result before after (spots.AtElement path.now) operation.now.content
         tree.old) tree.new) result }
 {
-    if !is_below(path) {
+    if !is_below_root(path) {
         return Err(ReadError::Fault(OperationError::RootTouched));
     }
-    if !is_bare(operation) {
+    if !has_only_comments(operation) {
         return Err(ReadError::Fault(OperationError::WrongNodes));
     }
     let gap = place_in_parent(tree, path);
-    if !space_fits(tree, &gap, before, after) {
+    if !has_requested_space(tree, &gap, before, after) {
         return Err(ReadError::Fault(OperationError::NoSpace));
     }
     cut_with_space(alloc, &gap, before, after, tree)?;

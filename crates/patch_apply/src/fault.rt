@@ -1,6 +1,6 @@
 //! Why a text is no diff document, and why a diff document can't be applied.
 ghost use Rattle.std.specs.Prelude.{◌≡◌};
-ghost use Rattle.patch_apply.specs.inner.PrivateTypes.{fault_at};
+ghost use Rattle.patch_apply.specs.inner.OutcomeViews.{fault_of_operation};
 
 use patch_parse::OperationError;
 use thiserror::Error;
@@ -47,8 +47,8 @@ pub enum ApplyFault {
 }
 
 /// The fault of the operation of a number.
-pub(crate) fn fault_at(error: OperationError, number: usize) -> ApplyFault
-    ensures exact { result ≡ fault_at number error }
+pub(crate) fn fault_of_operation(error: OperationError, number: usize) -> ApplyFault
+    ensures exact { result ≡ fault_of_operation number error }
 {
     match error {
         OperationError::Directive => ApplyFault::Directive(number),

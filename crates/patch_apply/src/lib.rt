@@ -1,8 +1,8 @@
 //! Reads a text as a diff document, and applies it to a replica of its document.
 //! Promises upward that the answer, or the first fault with its number, is the one that
-//! `patch_rules` specifies, whoever wrote the diff document (`apply_notice`, by `Applies`), that a
-//! text is read exactly where it is a diff document (`read_notice`, by `NoticeAnswer`), and that
-//! after a fault and when out of memory the replica is as it was.
+//! `patch_rules` specifies, whoever wrote the diff document (`apply_notice`, by `IsApplyAnswer`),
+//! that a text is read exactly where it is a diff document (`read_notice`, by `NoticeAnswer`), and
+//! that after a fault and when out of memory the replica is as it was.
 //! The standards are RFC 5874 (xcap-diff) and RFC 5261 (patch operations).
 //! Operations are counted over all documents of one diff document. Of a `sel` the parts of the
 //! document's name are compared, not the root.

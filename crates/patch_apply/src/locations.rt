@@ -5,7 +5,7 @@ ghost use Rattle.xml_tree.specs.TreeScopes.{scope_at};
 ghost use Rattle.xml_tree.specs.Tree.{at, height};
 ghost use Rattle.node_select.specs.declared.selector.PatchEnd.TheVariants as ends;
 ghost use Rattle.patch_rules.specs.PatchOperations.{locate_end, locate};
-ghost use Rattle.patch_apply.specs.inner.LocationViews.{Spots, path_in};
+ghost use Rattle.patch_apply.specs.inner.LocationViews.{LocatesAs, path_of_location};
 
 use crate::nodes::selected_text;
 use node_select::{PatchEnd, PatchSelector, find_attr, select_steps};
@@ -26,7 +26,7 @@ impl Location {
     /// The path of the selected element, or of the element that has the selected attribute or
     /// text.
     pub(crate) fn into_path(self) -> Path
-        ensures exact { result ≡ path_in self }
+        ensures exact { result ≡ path_of_location self }
     {
         match self {
             Location::AtElement(path) => path,
@@ -46,7 +46,7 @@ fn attribute_at(
     local: &Text,
 ) -> Option<Location>
     requires { at path tree.now ≡ Some element.now }
-    ensures selected_spot { Spots tree.now
+    ensures selected_spot { LocatesAs tree.now
         (locate_end (ends.Attribute uri.now local.now) (scope_at path tree.now) path element.now)
         result }
 {
@@ -64,7 +64,7 @@ fn locate_end(
     element: &Element,
 ) -> Option<Location>
     requires { at path tree.now ≡ Some element.now }
-    ensures selected_spot { Spots tree.now
+    ensures selected_spot { LocatesAs tree.now
         (locate_end end.now (scope_at path tree.now) path element.now) result }
 {
     match end {
@@ -82,7 +82,7 @@ fn locate_end(
 /// The location that a selector selects in a tree.
 pub(crate) fn locate(alloc: Global, selector: &PatchSelector, tree: &Element) -> Option<Location>
     requires { height tree.now ≤ MAX_LEVELS }
-    ensures selected_spot { Spots tree.now (locate selector.now tree.now) result }
+    ensures selected_spot { LocatesAs tree.now (locate selector.now tree.now) result }
 {
     let path = select_steps(alloc, tree, selector.steps.as_slice())?;
     let element = element_at(tree, &path)?;

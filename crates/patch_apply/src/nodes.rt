@@ -1,8 +1,8 @@
 //! Nodes of an element: texts by number, and the depth of nodes.
 ghost use Rattle.std.specs.Prelude.{◌≡◌, ◌<◌, min, suc, length, IfSome};
-ghost use Rattle.patch_rules.specs.PatchOperations.{is_space_at, selected_text, space_before};
-ghost use Rattle.patch_rules.specs.PatchOperations.{text_number, texts_in};
-ghost use Rattle.patch_apply.specs.inner.ByNodes.{is_blank_node, nodes_height};
+ghost use Rattle.patch_rules.specs.PatchOperations.{is_space_at, selected_text, has_space_before};
+ghost use Rattle.patch_rules.specs.PatchOperations.{text_number, count_texts};
+ghost use Rattle.patch_apply.specs.inner.ContentNodes.{is_blank_node, nodes_height};
 
 use patch_parse::is_blank;
 use xml_tree::{Node, depth};
@@ -28,8 +28,8 @@ fn text_number(nodes: &[Node], k: u64) -> Option<usize>
 }
 
 // The number of texts among nodes.
-fn texts_in(nodes: &[Node]) -> usize
-    ensures exact { result ≡ texts_in nodes.now }
+fn count_texts(nodes: &[Node]) -> usize
+    ensures exact { result ≡ count_texts nodes.now }
 {
     let mut count = 0;
     for node in nodes {
@@ -53,7 +53,7 @@ pub(crate) fn selected_text(nodes: &[Node], position: Option<u64>) -> Option<usi
             text_number(nodes, k)
         }
         None => {
-            if texts_in(nodes) != 1 {
+            if count_texts(nodes) != 1 {
                 return None;
             }
             text_number(nodes, 1)
@@ -91,7 +91,7 @@ pub(crate) fn is_space_at(nodes: &[Node], place: usize) -> bool
 
 /// Whether the node before this number is a text of white space alone.
 pub(crate) fn is_space_before(nodes: &[Node], place: usize) -> bool
-    ensures exact { result ≡ space_before place nodes.now }
+    ensures exact { result ≡ has_space_before place nodes.now }
 {
     place > 0 && is_space_at(nodes, place - 1)
 }

@@ -1,6 +1,6 @@
 //! Patch operations, one at a time (RFC 5261, section 4).
 ghost use Rattle.std.specs.Prelude.{◌≤◌, ◌<◌, length};
-ghost use Rattle.xml_names.specs.Memory.{Answered};
+ghost use Rattle.xml_names.specs.ReadErrors.{ResultSatisfies};
 ghost use Rattle.xml_tree.specs.declared.scope.TheConstants.{SCOPE_LIMIT};
 ghost use Rattle.xml_names.specs.declared.limits.TheConstants.{MAX_LEVELS};
 ghost use Rattle.xml_tree.specs.Tree.{height};
@@ -8,33 +8,34 @@ ghost use Rattle.patch_rules.specs.PatchOperations.{remove_result, replace_resul
 ghost use Rattle.patch_rules.specs.PatchOperations.{locate_and_apply};
 ghost use Rattle.patch_rules.specs.readers.AppliedOperations.{apply_operation, apply_selected};
 ghost use Rattle.patch_rules.specs.PatchOperations as words;
-ghost use Rattle.patch_apply.specs.inner.Results.{EditsAs};
-ghost use Rattle.patch_apply.specs.inner.LocationViews.{IsSpot, IsThere};
-ghost use Rattle.patch_parse.specs.Views.{task_in};
+ghost use Rattle.patch_apply.specs.inner.Results.{IsEditResult};
+ghost use Rattle.patch_apply.specs.inner.LocationViews.{IsSpot, LocationExists};
+ghost use Rattle.patch_parse.specs.Views.{action_view};
 
 use crate::attributes::{add_attr, remove_attr, remove_text, replace_attr, replace_text};
 use crate::elements::{put_content, remove_element, replace_element};
 use crate::locations::{Location, locate};
 use node_select::PatchSelector;
 use patch_parse::{
-    OperationError, PatchAction, are_known_attributes, plain_value, selector_for, task_of_operation,
+    OperationError, PatchAction, are_known_attributes, plain_value, read_patch_action, selector_for,
 };
 use std::alloc::Global;
 use xml_names::{ReadError, Text};
 use xml_tree::{Element, Scope};
 
 // Replaces the element, attribute or text at a location.
-fn replace(
+fn replace_at_location(
     alloc: Global,
     here: &Scope<'_>,
     location: Location,
     operation: &Element,
     tree: &mut Element,
 ) -> Result<(), ReadError<OperationError>>
-    requires place_exists { IsThere tree.old location }
+    requires place_exists { LocationExists tree.old location }
     requires height_bounded { height tree.old ≤ MAX_LEVELS }
     ensures as_specified { (w : words.Location) → IsSpot tree.old location w
-        → Answered (EditsAs (replace_result here.now w operation.now.content tree.old) tree.new)
+        → ResultSatisfies
+        (IsEditResult (replace_result here.now w operation.now.content tree.old) tree.new)
         result }
 {
     match location {
@@ -45,7 +46,7 @@ fn replace(
 }
 
 // Removes the element, attribute or text at a location.
-fn remove(
+fn remove_at_location(
     alloc: Global,
     before: bool,
     after: bool,
@@ -53,10 +54,11 @@ fn remove(
     operation: &Element,
     tree: &mut Element,
 ) -> Result<(), ReadError<OperationError>>
-    requires place_exists { IsThere tree.old location }
+    requires place_exists { LocationExists tree.old location }
     requires height_bounded { height tree.old ≤ MAX_LEVELS }
     ensures as_specified { (w : words.Location) → IsSpot tree.old location w
-        → Answered (EditsAs (remove_result before after w operation.now.content tree.old) tree.new)
+        → ResultSatisfies
+        (IsEditResult (remove_result before after w operation.now.content tree.old) tree.new)
         result }
 {
     match location {
@@ -75,12 +77,12 @@ fn apply_action(
     operation: &Element,
     tree: &mut Element,
 ) -> Result<(), ReadError<OperationError>>
-    requires place_exists { IsThere tree.old location }
+    requires place_exists { LocationExists tree.old location }
     requires height_bounded { height tree.old ≤ MAX_LEVELS }
     ensures as_specified { (w : words.Location) → IsSpot tree.old location w
-        → Answered
-        (EditsAs
-        (words.apply_action here.now (task_in task) w operation.now.content tree.old)
+        → ResultSatisfies
+        (IsEditResult
+        (words.apply_action here.now (action_view task) w operation.now.content tree.old)
         tree.new)
         result }
 {
@@ -96,8 +98,8 @@ fn apply_action(
             operation,
             tree,
         ),
-        PatchAction::Replace => replace(alloc, here, location, operation, tree),
-        PatchAction::Remove(before, after) => remove(
+        PatchAction::Replace => replace_at_location(alloc, here, location, operation, tree),
+        PatchAction::Remove(before, after) => remove_at_location(
             alloc, before, after, location, operation, tree,
         ),
     }
@@ -113,9 +115,9 @@ fn locate_and_apply(
     tree: &mut Element,
 ) -> Result<(), ReadError<OperationError>>
     requires height_bounded { height tree.old ≤ MAX_LEVELS }
-    ensures as_specified { Answered
-        (EditsAs
-        (locate_and_apply here.now (task_in task) selector.now operation.now.content tree.old)
+    ensures as_specified { ResultSatisfies
+        (IsEditResult
+        (locate_and_apply here.now (action_view task) selector.now operation.now.content tree.old)
         tree.new)
         result }
 {
@@ -134,10 +136,10 @@ fn apply_selected(
     tree: &mut Element,
 ) -> Result<(), ReadError<OperationError>>
     requires height_bounded { height tree.old ≤ MAX_LEVELS }
-    ensures as_specified { Answered
-        (EditsAs (apply_selected here.now sel.now operation.now tree.old) tree.new) result }
+    ensures as_specified { ResultSatisfies
+        (IsEditResult (apply_selected here.now sel.now operation.now tree.old) tree.new) result }
 {
-    let meant = task_of_operation(alloc, operation.name(), operation.attrs())?;
+    let meant = read_patch_action(alloc, operation.name(), operation.attrs())?;
     let Some(task) = meant else {
         return Err(ReadError::Fault(OperationError::Directive));
     };
@@ -157,8 +159,8 @@ pub(crate) fn apply_operation(
 ) -> Result<(), ReadError<OperationError>>
     requires room_left { length scope.now < SCOPE_LIMIT }
     requires height_bounded { height tree.old ≤ MAX_LEVELS }
-    ensures as_specified { Answered
-        (EditsAs (apply_operation scope.now operation.now tree.old) tree.new) result }
+    ensures as_specified { ResultSatisfies
+        (IsEditResult (apply_operation scope.now operation.now tree.old) tree.new) result }
 {
     let attrs = operation.attrs();
     let Some(sel) = plain_value(attrs, "sel") else {

@@ -4,24 +4,24 @@ use Rattle.std.proofs.Common.{◌≡◌, ◌≢◌, ℕ, Bool, true, false, cond
 use Rattle.std.specs.Prelude.{unwrap_or, ◌==◌, option_and_then}
 use Rattle.std.specs.List.{AllByRecursion, IsDistinct, find, list_all, list_any}
 use Rattle.std.proofs.lemmas.Slice.Eq.{bytes_eq-Decides}
-use Rattle.xml_names.specs.Attributes.{change_first, remove_first, with_new_value, with_attr, is_written_so as is_named}
+use Rattle.xml_names.specs.Attributes.{change_first, remove_first, with_new_value, with_attr, has_qname as is_named}
 use Rattle.xml_names.specs.Characters.{is_name, is_name_start, is_name_char}
 use Rattle.xml_names.specs.ExpandedNames.{ExpandedName, attr_name, same_expanded, same_uri}
 use Rattle.xml_names.specs.Markup.{print_name}
-use Rattle.xml_tree.specs.Proper.{IsAttribute, IsNamed, is_prefix}
-use Rattle.xml_names.specs.Scopes.{bindings_in, bound, declared_uri, joined, some_text, xml_prefix, xml_uri, xmlns_prefix}
+use Rattle.xml_tree.specs.Proper.{IsProperAttr, IsProperName, is_prefix}
+use Rattle.xml_names.specs.Scopes.{in_scope_bindings, bound_uri, declared_uri, scope_decls, non_empty_uri, xml_prefix, xml_uri, xmlns_prefix}
 use Rattle.xml_names.specs.declared.names.Name.{Name}
 use Rattle.xml_names.specs.declared.names.Decl.{Decl}
 use Rattle.xml_names.specs.declared.names.Attr.{Attr}
-use Rattle.xml_names.proofs.BindingWords.{bound-bindings_in}
+use Rattle.xml_names.proofs.BindingWords.{bound_uri-in_scope_bindings}
 use Rattle.tree_text.proofs.PrintedNames.{IsWritten}
 use Rattle.tree_text.proofs.PrintedValues.{both as parts}
-use Rattle.node_select.specs.Names.{attr_uri, is_unbound, prefix_uri, uri_of}
-use Rattle.node_select.specs.Selection.{is_attr}
+use Rattle.node_select.specs.Names.{attr_uri, has_unbound_prefix, prefix_uri, uri_or_empty}
+use Rattle.node_select.specs.Selection.{is_attr_named}
 use Rattle.patch_rules.proofs.NameCuts.{cut_from_front}
-use Rattle.patch_rules.specs.PatchOperations.{attr_of, no_declaration, rewritten, type_of, with_prefix}
-use Rattle.patch_rules.specs.inner.NameCuts.{cut_onto}
-use Rattle.edit_ops.specs.Operations.{attr_name_text}
+use Rattle.patch_rules.specs.PatchOperations.{attr_of, reject_xmlns, set_first_value, parse_attr_name, prefixed_name}
+use Rattle.patch_rules.specs.inner.QNames.{cut_qname_from}
+use Rattle.edit_ops.specs.DiffOperations.{attr_name_text}
 use Rattle.patch_laws.specs.Premises.{BindsAlike}
 use Rattle.patch_laws.proofs.Prefixes.{both, same_uri-refl}
 
@@ -40,11 +40,11 @@ module _ (f g : Attr → Bool) where
   removed_agree (a ∷ ats) h = λ i. cond (h.0 i) ats (a ∷ removed_agree ats h.1 i)
 
   -- where some attribute passes
-  pub rewritten_agree : (v : List ℕ) (x : Attr) (ats : List Attr) → Agree ats → IsSome (find g ats) → rewritten f v ats ≡ change_first g (with_new_value v) x ats
+  pub rewritten_agree : (v : List ℕ) (x : Attr) (ats : List Attr) → Agree ats → IsSome (find g ats) → set_first_value f v ats ≡ change_first g (with_new_value v) x ats
   rewritten_agree v x [] h s = cc
   rewritten_agree v x (a ∷ ats) h s = by (g a) refl (λ k. rewritten_agree v x ats h.1 k)
     where
-      by : (b : Bool) → g a ≡ b → (IsSome (find g ats) → rewritten f v ats ≡ change_first g (with_new_value v) x ats) → rewritten f v (a ∷ ats) ≡ change_first g (with_new_value v) x (a ∷ ats)
+      by : (b : Bool) → g a ≡ b → (IsSome (find g ats) → set_first_value f v ats ≡ change_first g (with_new_value v) x ats) → set_first_value f v (a ∷ ats) ≡ change_first g (with_new_value v) x (a ∷ ats)
       by true e rest = rw (h.0, e) refl
       by false e rest = rw (h.0, e) (ap (λ l. a ∷ l) (rest (rw e at s)))
 
@@ -137,12 +137,12 @@ Sole-front c n [] ys h = tt
 Sole-front c n (x ∷ xs) ys h = (h.0, Sole-front c n xs ys h.1)
 
 -- the name is the name of an attribute of the element
-pub named_there : (c : List (List Decl)) (n : Name) (ats : List Attr) → AllByRecursion (IsAttribute c) ats → IsSome (find (is_named n) ats) → IsNamed c n × (n.prefix ≡ [] → n.local ≢ xmlns_prefix)
+pub named_there : (c : List (List Decl)) (n : Name) (ats : List Attr) → AllByRecursion (IsProperAttr c) ats → IsSome (find (is_named n) ats) → IsProperName c n × (n.prefix ≡ [] → n.local ≢ xmlns_prefix)
 named_there c n [] h there = cc
 named_there c n (a ∷ ats) h there = by (is_named n a) refl (named_there c n ats h.1)
   where
-    by : (b : Bool) → is_named n a ≡ b → (IsSome (find (is_named n) ats) → IsNamed c n × (n.prefix ≡ [] → n.local ≢ xmlns_prefix)) → IsNamed c n × (n.prefix ≡ [] → n.local ≢ xmlns_prefix)
-    by true e g = subst (λ x. IsNamed c x × (x.prefix ≡ [] → x.local ≢ xmlns_prefix)) (same_name n a e) (h.0.named, h.0.other)
+    by : (b : Bool) → is_named n a ≡ b → (IsSome (find (is_named n) ats) → IsProperName c n × (n.prefix ≡ [] → n.local ≢ xmlns_prefix)) → IsProperName c n × (n.prefix ≡ [] → n.local ≢ xmlns_prefix)
+    by true e g = subst (λ x. IsProperName c x × (x.prefix ≡ [] → x.local ≢ xmlns_prefix)) (same_name n a e) (h.0.named, h.0.other)
     by false e g = g (rw e at there)
 
 -- ---- the test of a selector, which knows namespaces as texts
@@ -157,24 +157,24 @@ Full-xml : Full (Some xml_uri)
 unfolding xml_uri
 Full-xml = tt
 
-Full-text : (o : Option (List ℕ)) → Full (some_text o)
+Full-text : (o : Option (List ℕ)) → Full (non_empty_uri o)
 Full-text None = tt
 Full-text (Some []) = tt
 Full-text (Some (c ∷ cs)) = tt
 
-Full-bound : (c : List (List Decl)) (p : List ℕ) → Full (bound c p)
-Full-bound c p = by (bytes_eq p xml_prefix)
+Full-bound_uri : (c : List (List Decl)) (p : List ℕ) → Full (bound_uri c p)
+Full-bound_uri c p = by (bytes_eq p xml_prefix)
   where
-    by : (b : Bool) → Full (cond b (Some xml_uri) (some_text (declared_uri (joined c) p)))
+    by : (b : Bool) → Full (cond b (Some xml_uri) (non_empty_uri (declared_uri (scope_decls c) p)))
     by true = Full-xml
-    by false = Full-text (declared_uri (joined c) p)
+    by false = Full-text (declared_uri (scope_decls c) p)
 
 Full-attr : (c : List (List Decl)) (n : Name) → Full (attr_name c n).uri
 Full-attr c n = by (bytes_eq n.prefix [])
   where
-    by : (b : Bool) → Full (cond b None (bound c n.prefix))
+    by : (b : Bool) → Full (cond b None (bound_uri c n.prefix))
     by true = tt
-    by false = Full-bound c n.prefix
+    by false = Full-bound_uri c n.prefix
 
 same_texts : (a b : Option (List ℕ)) → Full a → Full b → unwrap_or a [] ≡ unwrap_or b [] → a ≡ b
 same_texts None None h k e = refl
@@ -191,63 +191,63 @@ same_test true false f g = sym (f refl)
 same_test false true f g = g refl
 
 -- c is the scope of the element, uri the namespace that the selector has for the name
-agrees_one : (c : List (List Decl)) (n : Name) (uri : List ℕ) (a : Attr) → uri ≡ uri_of (attr_name c n) → (same_expanded (attr_name c a.name) (attr_name c n) ≡ true → is_named n a ≡ true)
-    → is_attr c uri n.local a ≡ is_named n a
-agrees_one c n uri a is sole = same_test (is_attr c uri n.local a) (is_named n a) to from
+agrees_one : (c : List (List Decl)) (n : Name) (uri : List ℕ) (a : Attr) → uri ≡ uri_or_empty (attr_name c n) → (same_expanded (attr_name c a.name) (attr_name c n) ≡ true → is_named n a ≡ true)
+    → is_attr_named c uri n.local a ≡ is_named n a
+agrees_one c n uri a is sole = same_test (is_attr_named c uri n.local a) (is_named n a) to from
   where
-    to : is_attr c uri n.local a ≡ true → is_named n a ≡ true
+    to : is_attr_named c uri n.local a ≡ true → is_named n a ≡ true
     to h =
-        let b = parts (bytes_eq a.name.local n.local) (bytes_eq (uri_of (attr_name c a.name)) uri) h in
-        let u : uri_of (attr_name c a.name) ≡ uri_of (attr_name c n) = (bytes_eq-Decides (uri_of (attr_name c a.name)) uri).0 b.1 ∙ is in
+        let b = parts (bytes_eq a.name.local n.local) (bytes_eq (uri_or_empty (attr_name c a.name)) uri) h in
+        let u : uri_or_empty (attr_name c a.name) ≡ uri_or_empty (attr_name c n) = (bytes_eq-Decides (uri_or_empty (attr_name c a.name)) uri).0 b.1 ∙ is in
         let w : (attr_name c a.name).uri ≡ (attr_name c n).uri = same_texts (attr_name c a.name).uri (attr_name c n).uri (Full-attr c a.name) (Full-attr c n) u in
         let l : a.name.local ≡ n.local = (bytes_eq-Decides a.name.local n.local).0 b.0 in
         sole (same_expanded-is (attr_name c a.name) (attr_name c n) (λ i. record { uri = w i; local = l i }))
 
-    from : is_named n a ≡ true → is_attr c uri n.local a ≡ true
+    from : is_named n a ≡ true → is_attr_named c uri n.local a ≡ true
     from h =
         let name : a.name ≡ n = same_name n a h in
-        both (bytes_eq a.name.local n.local) (bytes_eq (uri_of (attr_name c a.name)) uri) ((bytes_eq-Decides a.name.local n.local).1 (ap (λ (x : Name). x.local) name))
-        ((bytes_eq-Decides (uri_of (attr_name c a.name)) uri).1 (ap (λ x. uri_of (attr_name c x)) name ∙ sym is))
+        both (bytes_eq a.name.local n.local) (bytes_eq (uri_or_empty (attr_name c a.name)) uri) ((bytes_eq-Decides a.name.local n.local).1 (ap (λ (x : Name). x.local) name))
+        ((bytes_eq-Decides (uri_or_empty (attr_name c a.name)) uri).1 (ap (λ x. uri_or_empty (attr_name c x)) name ∙ sym is))
 
-pub agrees : (c : List (List Decl)) (n : Name) (uri : List ℕ) (ats : List Attr) → uri ≡ uri_of (attr_name c n) → Sole c n ats → Agree (is_attr c uri n.local) (is_named n) ats
+pub agrees : (c : List (List Decl)) (n : Name) (uri : List ℕ) (ats : List Attr) → uri ≡ uri_or_empty (attr_name c n) → Sole c n ats → Agree (is_attr_named c uri n.local) (is_named n) ats
 agrees c n uri [] is h = tt
 agrees c n uri (a ∷ ats) is h = (agrees_one c n uri a is h.0, agrees c n uri ats is h.1)
 
 -- c is the scope of the element, d the scope at the operation
-pub not_xmlns : (d : List (List Decl)) (p : List ℕ) → p ≢ xmlns_prefix → prefix_uri (bindings_in d) p ≡ bound d p
+pub not_xmlns : (d : List (List Decl)) (p : List ℕ) → p ≢ xmlns_prefix → prefix_uri (in_scope_bindings d) p ≡ bound_uri d p
 not_xmlns d p ne = by (bytes_eq p xmlns_prefix) refl
   where
-    by : (b : Bool) → bytes_eq p xmlns_prefix ≡ b → cond b None (bound (bindings_in d ∷ []) p) ≡ bound d p
+    by : (b : Bool) → bytes_eq p xmlns_prefix ≡ b → cond b None (bound_uri (in_scope_bindings d ∷ []) p) ≡ bound_uri d p
     by true e = absurd (ne ((bytes_eq-Decides p xmlns_prefix).0 e))
-    by false e = bound-bindings_in d p
+    by false e = bound_uri-in_scope_bindings d p
 
-pub uri_is : (c d : List (List Decl)) (n : Name) → BindsAlike c d → IsNamed c n → n.prefix ≢ xmlns_prefix → attr_uri (bindings_in d) n ≡ uri_of (attr_name c n)
+pub uri_is : (c d : List (List Decl)) (n : Name) → BindsAlike c d → IsProperName c n → n.prefix ≢ xmlns_prefix → attr_uri (in_scope_bindings d) n ≡ uri_or_empty (attr_name c n)
 uri_is c d n m h ne = by (bytes_eq n.prefix [])
   where
-    by : (b : Bool) → cond b [] (unwrap_or (prefix_uri (bindings_in d) n.prefix) []) ≡ unwrap_or (cond b None (bound c n.prefix)) []
+    by : (b : Bool) → cond b [] (unwrap_or (prefix_uri (in_scope_bindings d) n.prefix) []) ≡ unwrap_or (cond b None (bound_uri c n.prefix)) []
     by true = refl
     by false = ap (λ (o : Option (List ℕ)). unwrap_or o []) (not_xmlns d n.prefix ne ∙ sym (m n.prefix h.known))
 
-prefix_known : (c d : List (List Decl)) (n : Name) → BindsAlike c d → IsNamed c n → n.prefix ≢ xmlns_prefix → n.prefix ≢ [] → IsSome (prefix_uri (bindings_in d) n.prefix)
+prefix_known : (c d : List (List Decl)) (n : Name) → BindsAlike c d → IsProperName c n → n.prefix ≢ xmlns_prefix → n.prefix ≢ [] → IsSome (prefix_uri (in_scope_bindings d) n.prefix)
 prefix_known c d n m h ne some = subst (λ o. IsSome o) (m n.prefix h.known ∙ sym (not_xmlns d n.prefix ne)) (h.known some)
 
-pub known_type : (c d : List (List Decl)) (n : Name) → BindsAlike c d → IsNamed c n → n.prefix ≢ xmlns_prefix → (bytes_eq n.prefix [] || is_some (prefix_uri (bindings_in d) n.prefix)) ≡ true
+pub known_type : (c d : List (List Decl)) (n : Name) → BindsAlike c d → IsProperName c n → n.prefix ≢ xmlns_prefix → (bytes_eq n.prefix [] || is_some (prefix_uri (in_scope_bindings d) n.prefix)) ≡ true
 known_type c d n m h ne = by (bytes_eq n.prefix []) refl
   where
-    by : (b : Bool) → bytes_eq n.prefix [] ≡ b → (b || is_some (prefix_uri (bindings_in d) n.prefix)) ≡ true
+    by : (b : Bool) → bytes_eq n.prefix [] ≡ b → (b || is_some (prefix_uri (in_scope_bindings d) n.prefix)) ≡ true
     by true e = refl
     by false e = prefix_known c d n m h ne (λ z. let w : true ≡ false = sym ((bytes_eq-Decides n.prefix []).1 z) ∙ e in absurd cc)
 
-pub not_unbound : (c d : List (List Decl)) (n : Name) → BindsAlike c d → IsNamed c n → n.prefix ≢ xmlns_prefix → is_unbound (bindings_in d) n ≡ false
+pub not_unbound : (c d : List (List Decl)) (n : Name) → BindsAlike c d → IsProperName c n → n.prefix ≢ xmlns_prefix → has_unbound_prefix (in_scope_bindings d) n ≡ false
 not_unbound c d n m h ne = by (bytes_eq n.prefix []) refl
   where
     some : (o : Option (List ℕ)) → IsSome o → is_none o ≡ false
     some None s = cc
     some (Some u) s = refl
 
-    by : (b : Bool) → bytes_eq n.prefix [] ≡ b → (not b && is_none (prefix_uri (bindings_in d) n.prefix)) ≡ false
+    by : (b : Bool) → bytes_eq n.prefix [] ≡ b → (not b && is_none (prefix_uri (in_scope_bindings d) n.prefix)) ≡ false
     by true e = refl
-    by false e = some (prefix_uri (bindings_in d) n.prefix) (prefix_known c d n m h ne (λ z. let w : true ≡ false = sym ((bytes_eq-Decides n.prefix []).1 z) ∙ e in absurd cc))
+    by false e = some (prefix_uri (in_scope_bindings d) n.prefix) (prefix_known c d n m h ne (λ z. let w : true ≡ false = sym ((bytes_eq-Decides n.prefix []).1 z) ∙ e in absurd cc))
 
 -- ---- the name as a type
 
@@ -265,22 +265,22 @@ name_chars : (n : List ℕ) → is_name n ≡ true → list_all is_name_char n �
 name_chars [] h = cc
 name_chars (c ∷ cs) h = let b = parts (is_name_start c) (list_all is_name_char cs) h in both (is_name_char c) (list_all is_name_char cs) (start_char c b.0) b.1
 
-cut_colon : (cs seen l : List ℕ) → list_all is_name_char cs ≡ true → cut_onto seen (cs ++ 58 ∷ l) ≡ with_prefix (seen ++ cs) l
-cut_colon [] seen l h = ap (λ p. with_prefix p l) (sym (append-nil seen))
+cut_colon : (cs seen l : List ℕ) → list_all is_name_char cs ≡ true → cut_qname_from seen (cs ++ 58 ∷ l) ≡ prefixed_name (seen ++ cs) l
+cut_colon [] seen l h = ap (λ p. prefixed_name p l) (sym (append-nil seen))
 cut_colon (c ∷ cs) seen l h =
     let b = parts (is_name_char c) (list_all is_name_char cs) h in
-    rw (no_colon c b.0) (cut_colon cs (seen ++ c ∷ []) l b.1 ∙ ap (λ p. with_prefix p l) (append_assoc seen (c ∷ []) cs))
+    rw (no_colon c b.0) (cut_colon cs (seen ++ c ∷ []) l b.1 ∙ ap (λ p. prefixed_name p l) (append_assoc seen (c ∷ []) cs))
 
 abbrev plain_name : List ℕ → Option Name
 plain_name l = cond (is_name l) (Some (record { prefix = []; local = l })) None
 
-cut_plain : (cs seen : List ℕ) → list_all is_name_char cs ≡ true → cut_onto seen cs ≡ plain_name (seen ++ cs)
+cut_plain : (cs seen : List ℕ) → list_all is_name_char cs ≡ true → cut_qname_from seen cs ≡ plain_name (seen ++ cs)
 cut_plain [] seen h = ap plain_name (sym (append-nil seen))
 cut_plain (c ∷ cs) seen h =
     let b = parts (is_name_char c) (list_all is_name_char cs) h in
     rw (no_colon c b.0) (cut_plain cs (seen ++ c ∷ []) b.1 ∙ ap plain_name (append_assoc seen (c ∷ []) cs))
 
-cut_by : (p l : List ℕ) → is_prefix p ≡ true → is_name l ≡ true → cut_onto [] (print_name (record { prefix = p; local = l })) ≡ Some (record { prefix = p; local = l })
+cut_by : (p l : List ℕ) → is_prefix p ≡ true → is_name l ≡ true → cut_qname_from [] (print_name (record { prefix = p; local = l })) ≡ Some (record { prefix = p; local = l })
 cut_by [] l h k = cut_plain l [] (name_chars l k) ∙ rw k refl
 cut_by (c ∷ cs) l h k = cut_colon (c ∷ cs) [] l (name_chars (c ∷ cs) h) ∙ rw (h, k) refl
 
@@ -292,8 +292,8 @@ declares_not n o = by (bytes_eq n.prefix []) refl (bytes_eq n.local xmlns_prefix
     by true e false f = refl
     by true e true f = absurd (o ((bytes_eq-Decides n.prefix []).0 e) ((bytes_eq-Decides n.local xmlns_prefix).0 f))
 
-pub type_read : (n : Name) → IsWritten n → (n.prefix ≡ [] → n.local ≢ xmlns_prefix) → type_of (attr_name_text n) ≡ Some n
-type_read n w o = ap (option_and_then no_declaration) (sym (cut_from_front (print_name n)) ∙ cut_by n.prefix n.local w.prefix w.local) ∙ rw (declares_not n o) refl
+pub type_read : (n : Name) → IsWritten n → (n.prefix ≡ [] → n.local ≢ xmlns_prefix) → parse_attr_name (attr_name_text n) ≡ Some n
+type_read n w o = ap (option_and_then reject_xmlns) (sym (cut_from_front (print_name n)) ∙ cut_by n.prefix n.local w.prefix w.local) ∙ rw (declares_not n o) refl
 
 pub may_name : (n : Name) → (n.prefix ≡ [] → n.local ≢ xmlns_prefix) → not (bytes_eq n.prefix [] && bytes_eq n.local xmlns_prefix) ≡ true
 may_name n o = rw (declares_not n o) refl

@@ -3,10 +3,10 @@
 use Rattle.std.proofs.Common.{◌≡◌, ◌≢◌, ℕ, zero, suc, ◌<◌, ◌≤◌, Bool, true, false, List, [], ◌∷◌, ◌++◌, length, Option, Some, None, IsSome, is_some, is_none, option_and_then, slice_get, bytes_eq, Ok, refl, sym, ap, ◌∙◌, subst, append-nil, arith}
 use Rattle.std.specs.List.{find}
 use Rattle.std.proofs.lemmas.Slice.Eq.{bytes_eq-Decides}
-use Rattle.xml_names.specs.Attributes.{with_attr, is_written_so as is_named}
-use Rattle.xml_tree.specs.Edits.{attr_at, set_at, write_attr}
-use Rattle.xml_tree.specs.Proper.{IsNamed, IsTag, IsProperPart, ProperIn}
-use Rattle.xml_names.specs.Scopes.{bindings_in, bound, xmlns_prefix}
+use Rattle.xml_names.specs.Attributes.{with_attr, has_qname as is_named}
+use Rattle.xml_tree.specs.Edits.{attr_at, set_attr_at, set_attr_value}
+use Rattle.xml_tree.specs.Proper.{IsProperName, IsProperTag, IsProperPart, IsProperTree}
+use Rattle.xml_names.specs.Scopes.{in_scope_bindings, bound_uri, xmlns_prefix}
 use Rattle.xml_tree.specs.TreeScopes.{scope_at}
 use Rattle.xml_tree.specs.Tree.{Tree, at, height, child_elements_of}
 use Rattle.xml_names.specs.declared.names.Name.{Name}
@@ -15,18 +15,18 @@ use Rattle.xml_names.specs.declared.names.Attr.{Attr}
 use Rattle.xml_tree.proofs.EverywhereLaws.{inside, scope_at-around}
 use Rattle.xml_tree.proofs.ProperEdits.{around-change_at, at-change_at, put-element, put-other}
 use Rattle.tree_text.proofs.UnboundScopes.{never_bound}
-use Rattle.edit_ops.specs.Changes.{Fits, edited}
+use Rattle.edit_ops.specs.Changes.{FitsTree, edited}
 use Rattle.edit_ops.specs.declared.change.Change.{Change}
 use Rattle.edit_ops.specs.declared.change.Change.TheVariants.{CreateDocument, Insert, Replace, Remove, SetAttr, DropAttr, RemoveDocument}
 use Rattle.patch_rules.specs.PatchOperations.{attr_of}
 use Rattle.patch_rules.specs.readers.AppliedOperations.{apply_operation}
 use Rattle.edit_ops.specs.Notes.{AreNotesOf, Note, is_fresh, note_of, scope_of_place, tree_after}
-use Rattle.edit_ops.specs.Operations.{operation, change_operation as told}
-use Rattle.patch_rules.specs.Replay.{with_operation_number, then_next}
-use Rattle.patch_rules.specs.readers.Replay.{apply_all}
+use Rattle.edit_ops.specs.DiffOperations.{operation, change_operation as told}
+use Rattle.patch_rules.specs.Replay.{with_operation_number, and_then_replay}
+use Rattle.patch_rules.specs.readers.Replay.{apply_operations}
 use Rattle.patch_rules.specs.Notices.{operations}
 use Rattle.patch_rules.proofs.Lengths.{HasPositions, HasPositions-short, path_positions}
-use Rattle.patch_laws.specs.Premises.{ArePositions, AreDiffableTrees, IsDiffableTree, around_operations}
+use Rattle.patch_laws.specs.Premises.{AreReadablePositions, AreDiffableTrees, IsDiffableTree, scope_around_operations}
 use Rattle.patch_laws.proofs.Attributes.{Sole-distinct, Sole-front, named_there, new_behind}
 use Rattle.patch_laws.proofs.AttributeOps.{NameAt, added, dropped, exchanged}
 use Rattle.patch_laws.proofs.Prefixes.{both}
@@ -44,26 +44,26 @@ there_before f (Some k) h = refl
 
 -- ---- the name of an attribute
 
-pub tag_at : (p : List ℕ) (t k : Tree) → at p t ≡ Some k → ProperIn [] t → IsTag (scope_at p t) k.name k.decls k.attrs
-tag_at p t k there h = subst (λ c. IsTag c k.name k.decls k.attrs) (sym (scope_at-around p t k there)) (inside IsProperPart p [] t k there h).0
+pub tag_at : (p : List ℕ) (t k : Tree) → at p t ≡ Some k → IsProperTree [] t → IsProperTag (scope_at p t) k.name k.decls k.attrs
+tag_at p t k there h = subst (λ c. IsProperTag c k.name k.decls k.attrs) (sym (scope_at-around p t k there)) (inside IsProperPart p [] t k there h).0
 
 -- the scope at a place doesn't depend on attributes
-scope_written : (p : List ℕ) (n : Name) (v : List ℕ) (t k : Tree) → at p t ≡ Some k → scope_at p (set_at p n v t) ≡ scope_at p t
+scope_written : (p : List ℕ) (n : Name) (v : List ℕ) (t k : Tree) → at p t ≡ Some k → scope_at p (set_attr_at p n v t) ≡ scope_at p t
 scope_written p n v t k there =
-    scope_at-around p (set_at p n v t) (write_attr n v k) (at-change_at p (write_attr n v) t k there)
-    ∙ ap (λ c. c ++ k.decls ∷ []) (around-change_at p (write_attr n v) t k there) ∙ sym (scope_at-around p t k there)
+    scope_at-around p (set_attr_at p n v t) (set_attr_value n v k) (at-change_at p (set_attr_value n v) t k there)
+    ∙ ap (λ c. c ++ k.decls ∷ []) (around-change_at p (set_attr_value n v) t k there) ∙ sym (scope_at-around p t k there)
 
 none_some : (o : Option (List ℕ)) → o ≡ None → IsSome o → ⊥
 none_some None e h = cc
 none_some (Some u) e h = cc
 
-not_bound : (p : List ℕ) (t : Tree) (n : Name) → ProperIn [] t → IsNamed (scope_at p t) n → n.prefix ≢ xmlns_prefix
+not_bound : (p : List ℕ) (t : Tree) (n : Name) → IsProperTree [] t → IsProperName (scope_at p t) n → n.prefix ≢ xmlns_prefix
 not_bound p t n h named is =
-    let none : bound (scope_at p t) n.prefix ≡ None = ap (bound (scope_at p t)) is ∙ never_bound p [] t refl h in
-    let some : IsSome (bound (scope_at p t) n.prefix) = named.known (λ z. let w : xmlns_prefix ≡ [] = sym is ∙ z in absurd (cc)) in
-    none_some (bound (scope_at p t) n.prefix) none some
+    let none : bound_uri (scope_at p t) n.prefix ≡ None = ap (bound_uri (scope_at p t)) is ∙ never_bound p [] t refl h in
+    let some : IsSome (bound_uri (scope_at p t) n.prefix) = named.known (λ z. let w : xmlns_prefix ≡ [] = sym is ∙ z in absurd (cc)) in
+    none_some (bound_uri (scope_at p t) n.prefix) none some
 
-name_by : (c : List (List Decl)) (n : Name) (ats more : List Attr) → ((named : IsNamed c n) → n.prefix ≢ xmlns_prefix) → (name : Name) (ds : List Decl) → IsTag c name ds (ats ++ more)
+name_by : (c : List (List Decl)) (n : Name) (ats more : List Attr) → ((named : IsProperName c n) → n.prefix ≢ xmlns_prefix) → (name : Name) (ds : List Decl) → IsProperTag c name ds (ats ++ more)
     → IsSome (find (is_named n) (ats ++ more)) → NameAt c n ats
 name_by c n ats more ok name ds tag there =
     let x = named_there c n (ats ++ more) tag.attributes there in record {
@@ -73,9 +73,9 @@ name_by c n ats more ok name ds tag there =
       sole = Sole-front c n ats more (Sole-distinct c n (ats ++ more) tag.names there);
     }
 
-pub name_before : (p : List ℕ) (n : Name) (t k : Tree) → at p t ≡ Some k → ProperIn [] t → IsSome (find (is_named n) k.attrs) → NameAt (scope_at p t) n k.attrs
+pub name_before : (p : List ℕ) (n : Name) (t k : Tree) → at p t ≡ Some k → IsProperTree [] t → IsSome (find (is_named n) k.attrs) → NameAt (scope_at p t) n k.attrs
 name_before p n t k there h some =
-    name_by (scope_at p t) n k.attrs [] (not_bound p t n h) k.name k.decls (subst (λ l. IsTag (scope_at p t) k.name k.decls l) (sym (append-nil k.attrs)) (tag_at p t k there h))
+    name_by (scope_at p t) n k.attrs [] (not_bound p t n h) k.name k.decls (subst (λ l. IsProperTag (scope_at p t) k.name k.decls l) (sym (append-nil k.attrs)) (tag_at p t k there h))
     (subst (λ l. IsSome (find (is_named n) l)) (sym (append-nil k.attrs)) some)
 
 same_named : (n : Name) (v : List ℕ) → is_named n (attr_of n v) ≡ true
@@ -89,25 +89,25 @@ found_behind n v (a ∷ ats) = by (is_named n a) refl (found_behind n v ats)
     by true e h = rw e refl
     by false e h = rw e h
 
-pub name_after : (p : List ℕ) (n : Name) (v : List ℕ) (t k : Tree) → at p t ≡ Some k → ProperIn [] t → ProperIn [] (set_at p n v t) → find (is_named n) k.attrs ≡ None → NameAt (scope_at p t) n k.attrs
+pub name_after : (p : List ℕ) (n : Name) (v : List ℕ) (t k : Tree) → at p t ≡ Some k → IsProperTree [] t → IsProperTree [] (set_attr_at p n v t) → find (is_named n) k.attrs ≡ None → NameAt (scope_at p t) n k.attrs
 name_after p n v t k there h after none =
-    let tag : IsTag (scope_at p t) k.name k.decls (with_attr n v k.attrs) =
-    subst (λ c. IsTag c k.name k.decls (with_attr n v k.attrs)) (scope_written p n v t k there)
-    (tag_at p (set_at p n v t) (write_attr n v k) (at-change_at p (write_attr n v) t k there) after) in
+    let tag : IsProperTag (scope_at p t) k.name k.decls (with_attr n v k.attrs) =
+    subst (λ c. IsProperTag c k.name k.decls (with_attr n v k.attrs)) (scope_written p n v t k there)
+    (tag_at p (set_attr_at p n v t) (set_attr_value n v k) (at-change_at p (set_attr_value n v) t k there) after) in
     name_by (scope_at p t) n k.attrs (attr_of n v ∷ []) (not_bound p t n h) k.name k.decls
-    (subst (λ l. IsTag (scope_at p t) k.name k.decls l) (sym (new_behind n v k.attrs none)) tag) (found_behind n v k.attrs)
+    (subst (λ l. IsProperTag (scope_at p t) k.name k.decls l) (sym (new_behind n v k.attrs none)) tag) (found_behind n v k.attrs)
 
 -- ---- one change
 
 module _ (d uri : List ℕ) (ne : d ≢ []) where
-  set_by : (p : List ℕ) (n : Name) (v : List ℕ) (t k : Tree) → at p t ≡ Some k → ArePositions p → ProperIn [] t → ProperIn [] (set_at p n v t) → height (set_at p n v t) ≤ 64
-      → (o : Option Attr) → find (is_named n) k.attrs ≡ o → apply_operation (around_operations d uri) (told d (bindings_in (scope_at p t)) (is_none o) (SetAttr p n v)) t ≡ Ok (set_at p n v t)
+  set_by : (p : List ℕ) (n : Name) (v : List ℕ) (t k : Tree) → at p t ≡ Some k → AreReadablePositions p → IsProperTree [] t → IsProperTree [] (set_attr_at p n v t) → height (set_attr_at p n v t) ≤ 64
+      → (o : Option Attr) → find (is_named n) k.attrs ≡ o → apply_operation (scope_around_operations d uri) (told d (in_scope_bindings (scope_at p t)) (is_none o) (SetAttr p n v)) t ≡ Ok (set_attr_at p n v t)
   set_by p n v t k there small before after low None e = added d uri ne t p n k there small (name_after p n v t k there before after e) v e low
   set_by p n v t k there small before after low (Some a) e =
       let some : IsSome (find (is_named n) k.attrs) = ap is_some e in exchanged d uri ne t p n k there small (name_before p n t k there before some) v some low
 
-  pub applied_told : (t : Tree) (change : Change) → Fits t change → ProperIn [] t → HasPositions t → ProperIn [] (edited t change) → height (edited t change) ≤ 64
-      → apply_operation (around_operations d uri) (told d (bindings_in (scope_of_place t change)) (is_fresh t change) change) t ≡ Ok (edited t change)
+  pub applied_told : (t : Tree) (change : Change) → FitsTree t change → IsProperTree [] t → HasPositions t → IsProperTree [] (edited t change) → height (edited t change) ≤ 64
+      → apply_operation (scope_around_operations d uri) (told d (in_scope_bindings (scope_of_place t change)) (is_fresh t change) change) t ≡ Ok (edited t change)
   applied_told t (CreateDocument root) fits before small after low = absurd fits
   applied_told t (Insert q zero e) fits before small after low =
       let k = some_and (at q t) (λ x. 0 ≤ length (child_elements_of x)) fits in
@@ -135,15 +135,15 @@ module _ (d uri : List ℕ) (ne : d ≢ []) where
   first_told t [] h = h
   first_told t (n ∷ ns) h = h.0
 
-  pub applied_note : (tag : ℕ) (t : Tree) (n : Note) → Fits t n.change → n ≡ note_of tag n.next t n.change → IsDiffableTree t → IsDiffableTree (edited t n.change)
-      → apply_operation (around_operations d uri) (operation d n) t ≡ Ok (edited t n.change)
+  pub applied_note : (tag : ℕ) (t : Tree) (n : Note) → FitsTree t n.change → n ≡ note_of tag n.next t n.change → IsDiffableTree t → IsDiffableTree (edited t n.change)
+      → apply_operation (scope_around_operations d uri) (operation d n) t ≡ Ok (edited t n.change)
   applied_note tag t n fits is before after =
-      ap (λ (x : Note). apply_operation (around_operations d uri) (told d x.bindings x.fresh n.change) t) is
+      ap (λ (x : Note). apply_operation (scope_around_operations d uri) (told d x.bindings x.fresh n.change) t) is
       ∙ applied_told t n.change fits before.proper (HasPositions-short t before.short) after.proper after.low
 
-  pub all_applied_notes : (count tag : ℕ) (t : Tree) (ns : List Note) → AreNotesOf tag t ns → AreDiffableTrees t ns → apply_all count (around_operations d uri) (operations d ns) t ≡ Ok (tree_after t ns)
+  pub all_applied_notes : (count tag : ℕ) (t : Tree) (ns : List Note) → AreNotesOf tag t ns → AreDiffableTrees t ns → apply_operations count (scope_around_operations d uri) (operations d ns) t ≡ Ok (tree_after t ns)
   all_applied_notes count tag t [] h told = refl
   all_applied_notes count tag t (n ∷ ns) h told =
       let one = applied_note tag t n h.0 h.1 told.0 (first_told (edited t n.change) ns told.1) in
-      ap (λ r. then_next (with_operation_number count r) (apply_all (suc count) (around_operations d uri) (operations d ns))) one
+      ap (λ r. and_then_replay (with_operation_number count r) (apply_operations (suc count) (scope_around_operations d uri) (operations d ns))) one
       ∙ all_applied_notes (suc count) n.next (edited t n.change) ns h.2 told.1

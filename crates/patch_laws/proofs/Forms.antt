@@ -1,16 +1,16 @@
 -- The diff document of change records has the form of one.
 use Rattle.std.proofs.Common.{◌≡◌, ◌≢◌, ℕ, Bool, true, false, ◌&&◌, ◌||◌, List, [], ◌∷◌, bytes_eq, codes, refl, ap, ◌∙◌}
 use Rattle.std.specs.List.{AllByRecursion, list_all}
-use Rattle.xml_names.specs.Scopes.{bound, xml_prefix}
+use Rattle.xml_names.specs.Scopes.{bound_uri, xml_prefix}
 use Rattle.xml_tree.specs.Tree.{Tree}
 use Rattle.xml_names.specs.declared.names.Decl.{Decl}
 use Rattle.edit_ops.specs.declared.change.Change.{Change}
 use Rattle.edit_ops.specs.declared.change.Change.TheVariants.{CreateDocument, Insert, Replace, Remove, SetAttr, DropAttr, RemoveDocument}
 use Rattle.edit_ops.specs.Notes.{Note, tag_after}
-use Rattle.patch_rules.specs.Notices.{all_at_once, declares, diff, diff_uri, document, one_by_one, operations}
-use Rattle.edit_ops.specs.Operations.{operation, change_operation as told}
+use Rattle.patch_rules.specs.Notices.{aggregate_documents, declares_prefix, diff, diff_uri, document, patching_documents, operations}
+use Rattle.edit_ops.specs.DiffOperations.{operation, change_operation as told}
 use Rattle.patch_rules.specs.Replay.{documents, has_diff_name, is_document, is_notice, is_operation, is_in_diff_namespace, is_body_unchanged}
-use Rattle.patch_laws.specs.Premises.{around_operations}
+use Rattle.patch_laws.specs.Premises.{scope_around_operations}
 use Rattle.patch_laws.proofs.Prefixes.{both}
 use Rattle.patch_laws.proofs.Wholes.{bound_notice, document_operations, documents_in, keep_at_once, keep_one_by_one, operation_ours, ours, top}
 
@@ -31,37 +31,37 @@ or_true true = refl
 or_true false = refl
 
 module _ (d : List ℕ) (some : d ≢ []) (other : bytes_eq d xml_prefix ≡ false) where
-  are_operations : (ns : List Note) → AllByRecursion (λ n. declares d n.bindings ≡ false) ns → list_all (is_operation (around_operations d diff_uri)) (operations d ns) ≡ true
+  are_operations : (ns : List Note) → AllByRecursion (λ n. declares_prefix d n.bindings ≡ false) ns → list_all (is_operation (scope_around_operations d diff_uri)) (operations d ns) ≡ true
   are_operations [] h = refl
   are_operations (n ∷ ns) h =
-      both (is_operation (around_operations d diff_uri) (operation d n)) (list_all (is_operation (around_operations d diff_uri)) (operations d ns))
-      (told_form d n.bindings n.fresh n.change (is_in_diff_namespace (around_operations d diff_uri) (operation d n)) (operation_ours d some other n h.0)) (are_operations ns h.1)
+      both (is_operation (scope_around_operations d diff_uri) (operation d n)) (list_all (is_operation (scope_around_operations d diff_uri)) (operations d ns))
+      (told_form d n.bindings n.fresh n.change (is_in_diff_namespace (scope_around_operations d diff_uri) (operation d n)) (operation_ours d some other n h.0)) (are_operations ns h.1)
 
-  is_document_of : (sel : List ℕ) (from to : ℕ) (ns : List Note) → AllByRecursion (λ n. declares d n.bindings ≡ false) ns
+  is_document_of : (sel : List ℕ) (from to : ℕ) (ns : List Note) → AllByRecursion (λ n. declares_prefix d n.bindings ≡ false) ns
       → is_document (top d some other) (document d sel from to (operations d ns)) ≡ true
   is_document_of sel from to ns h =
-      ap (λ os. is_body_unchanged (around_operations d diff_uri) os || list_all (is_operation (around_operations d diff_uri)) os) (document_operations d some other sel from to ns h)
-      ∙ ap (λ b. is_body_unchanged (around_operations d diff_uri) (operations d ns) || b) (are_operations ns h) ∙ or_true (is_body_unchanged (around_operations d diff_uri) (operations d ns))
+      ap (λ os. is_body_unchanged (scope_around_operations d diff_uri) os || list_all (is_operation (scope_around_operations d diff_uri)) os) (document_operations d some other sel from to ns h)
+      ∙ ap (λ b. is_body_unchanged (scope_around_operations d diff_uri) (operations d ns) || b) (are_operations ns h) ∙ or_true (is_body_unchanged (scope_around_operations d diff_uri) (operations d ns))
 
-  one_by_one_form : (sel : List ℕ) (ns : List Note) → AllByRecursion (λ n. declares d n.bindings ≡ false) ns → list_all (is_document (top d some other)) (one_by_one d sel ns) ≡ true
+  one_by_one_form : (sel : List ℕ) (ns : List Note) → AllByRecursion (λ n. declares_prefix d n.bindings ≡ false) ns → list_all (is_document (top d some other)) (patching_documents d sel ns) ≡ true
   one_by_one_form sel [] h = refl
   one_by_one_form sel (n ∷ ns) h =
-      both (is_document (top d some other) (document d sel n.previous n.next (operation d n ∷ []))) (list_all (is_document (top d some other)) (one_by_one d sel ns))
+      both (is_document (top d some other) (document d sel n.previous n.next (operation d n ∷ []))) (list_all (is_document (top d some other)) (patching_documents d sel ns))
       (is_document_of sel n.previous n.next (n ∷ []) (h.0, tt)) (one_by_one_form sel ns h.1)
 
-  at_once_form : (sel : List ℕ) (from : ℕ) (ns : List Note) → AllByRecursion (λ n. declares d n.bindings ≡ false) ns → list_all (is_document (top d some other)) (all_at_once d sel from ns) ≡ true
+  at_once_form : (sel : List ℕ) (from : ℕ) (ns : List Note) → AllByRecursion (λ n. declares_prefix d n.bindings ≡ false) ns → list_all (is_document (top d some other)) (aggregate_documents d sel from ns) ≡ true
   at_once_form sel from [] h = refl
   at_once_form sel from (n ∷ ns) h = both (is_document (top d some other) (document d sel from (tag_after from (n ∷ ns)) (operations d (n ∷ ns)))) true (is_document_of sel from (tag_after from (n ∷ ns)) (n ∷ ns) h) refl
 
   by_documents : (root : List ℕ) (ds : List Tree) → documents (diff d root ds) ≡ ds → list_all (is_document (top d some other)) ds ≡ true → is_notice (diff d root ds) ≡ true
   by_documents root ds docs all =
-      both (has_diff_name [] (codes "xcap-diff") (diff d root ds)) (list_all (is_document (top d some other)) (documents (diff d root ds))) (ours d some other (bound (top d some other) d) (bound_notice d some other))
+      both (has_diff_name [] (codes "xcap-diff") (diff d root ds)) (list_all (is_document (top d some other)) (documents (diff d root ds))) (ours d some other (bound_uri (top d some other) d) (bound_notice d some other))
       (ap (list_all (is_document (top d some other))) docs ∙ all)
 
-  pub is_notice_one_by_one : (root sel : List ℕ) (ns : List Note) → AllByRecursion (λ n. declares d n.bindings ≡ false) ns → is_notice (diff d root (one_by_one d sel ns)) ≡ true
+  pub is_notice_one_by_one : (root sel : List ℕ) (ns : List Note) → AllByRecursion (λ n. declares_prefix d n.bindings ≡ false) ns → is_notice (diff d root (patching_documents d sel ns)) ≡ true
   is_notice_one_by_one root sel ns h =
-      by_documents root (one_by_one d sel ns) (documents_in d some other root (one_by_one d sel ns) (keep_one_by_one d some other sel ns)) (one_by_one_form sel ns h)
+      by_documents root (patching_documents d sel ns) (documents_in d some other root (patching_documents d sel ns) (keep_one_by_one d some other sel ns)) (one_by_one_form sel ns h)
 
-  pub is_notice_at_once : (root sel : List ℕ) (from : ℕ) (ns : List Note) → AllByRecursion (λ n. declares d n.bindings ≡ false) ns → is_notice (diff d root (all_at_once d sel from ns)) ≡ true
+  pub is_notice_at_once : (root sel : List ℕ) (from : ℕ) (ns : List Note) → AllByRecursion (λ n. declares_prefix d n.bindings ≡ false) ns → is_notice (diff d root (aggregate_documents d sel from ns)) ≡ true
   is_notice_at_once root sel from ns h =
-      by_documents root (all_at_once d sel from ns) (documents_in d some other root (all_at_once d sel from ns) (keep_at_once d some other sel from ns)) (at_once_form sel from ns h)
+      by_documents root (aggregate_documents d sel from ns) (documents_in d some other root (aggregate_documents d sel from ns) (keep_at_once d some other sel from ns)) (at_once_form sel from ns h)

@@ -6,18 +6,18 @@ use Rattle.std.specs.Int.Digits.{digits_of}
 use Rattle.std.proofs.lemmas.Bool.Decides.{nat_tests}
 use Rattle.std.proofs.lemmas.Fmt.{decimal-digits_of}
 use Rattle.std.proofs.lemmas.Int.Digits.{all_below_base_digits_of}
-use Rattle.xml_names.specs.Characters.{all_chars, is_name_char}
+use Rattle.xml_names.specs.Characters.{has_only_chars, is_name_char}
 use Rattle.xml_names.specs.ExpandedNames.{ExpandedName, attr_name, same_expanded}
-use Rattle.xml_tree.specs.Proper.{ProperIn, is_declaration, is_prefix}
-use Rattle.xml_tree.specs.inner.Proper.{Proper}
+use Rattle.xml_tree.specs.Proper.{IsProperTree, is_proper_decl, is_prefix}
+use Rattle.xml_tree.specs.inner.Proper.{IsProperContent}
 use Rattle.xml_names.specs.Scopes.{xml_uri, xmlns_prefix, xmlns_uri}
-use Rattle.xml_tree.specs.Tree.{Tree, content_height, height, of_children as listed}
+use Rattle.xml_tree.specs.Tree.{Tree, content_height, height, content_of_children as listed}
 use Rattle.xml_names.specs.declared.names.Decl.{Decl}
 use Rattle.edit_ops.specs.Notes.{AreNotesOf, Note, tag_after}
-use Rattle.patch_rules.specs.Notices.{all_at_once, candidate, declares, diff, diff_uri, document, one_by_one, operations}
-use Rattle.edit_ops.specs.Operations.{operation, plain_attr as plain}
-use Rattle.patch_laws.specs.Premises.{AreDiffableTrees, around_operations}
-use Rattle.patch_laws.proofs.FreePrefixes.{candidate-other, candidate-some}
+use Rattle.patch_rules.specs.Notices.{aggregate_documents, candidate_prefix, declares_prefix, diff, diff_uri, document, patching_documents, operations}
+use Rattle.edit_ops.specs.DiffOperations.{operation, plain_attr as plain}
+use Rattle.patch_laws.specs.Premises.{AreDiffableTrees, scope_around_operations}
+use Rattle.patch_laws.proofs.FreePrefixes.{candidate_prefix-other, candidate_prefix-some}
 use Rattle.patch_laws.proofs.Numbers.{number_chars}
 use Rattle.patch_laws.proofs.Prefixes.{both}
 use Rattle.patch_laws.proofs.ProperOperations.{AreSound, IsDiffPrefix, chars-append, named_ours, notes_sound, plain_attribute}
@@ -25,7 +25,7 @@ use Rattle.patch_laws.proofs.Wholes.{bound_document, bound_notice, top}
 
 -- ---- elements one after the other
 
-listed_proper : (c : List (List Decl)) (es : List Tree) → AllByRecursion (ProperIn c) es → Proper c (listed es)
+listed_proper : (c : List (List Decl)) (es : List Tree) → AllByRecursion (IsProperTree c) es → IsProperContent c (listed es)
 listed_proper c [] h = tt
 listed_proper c (e ∷ es) h = (tt, h.0.0, h.0.1, listed_proper c es h.1)
 
@@ -62,7 +62,7 @@ unfolding xmlns_uri xml_uri
 ours_apart = (refl, refl)
 
 module _ (d : List ℕ) (p : IsDiffPrefix d) where
-  declares_ours : is_declaration (record { prefix = d; uri = diff_uri }) ≡ true
+  declares_ours : is_proper_decl (record { prefix = d; uri = diff_uri }) ≡ true
   declares_ours = rw (p.name, p.apart, p.other, ours_apart.0, ours_apart.1) (last (bytes_eq d []))
     where
       last : (b : Bool) → (b || true) ≡ true
@@ -71,10 +71,10 @@ module _ (d : List ℕ) (p : IsDiffPrefix d) where
 
   -- ---- documents
 
-  document_proper : (sel : List ℕ) (from to : ℕ) (os : List Tree) → all_chars sel ≡ true → AllByRecursion (ProperIn (around_operations d diff_uri)) os
-      → ProperIn (top d p.some p.other) (document d sel from to os)
+  document_proper : (sel : List ℕ) (from to : ℕ) (os : List Tree) → has_only_chars sel ≡ true → AllByRecursion (IsProperTree (scope_around_operations d diff_uri)) os
+      → IsProperTree (top d p.some p.other) (document d sel from to os)
   document_proper sel from to os chars h =
-      let here = around_operations d diff_uri in (
+      let here = scope_around_operations d diff_uri in (
         record {
           named = named_ours d p here (codes "document") refl (bound_document d p.some p.other);
           declarations = tt;
@@ -91,29 +91,29 @@ module _ (d : List ℕ) (p : IsDiffPrefix d) where
         listed_proper here os h,
       )
 
-  pub document_sound : (sel : List ℕ) (from to : ℕ) (os : List Tree) → all_chars sel ≡ true → AreSound d p os
-      → ProperIn (top d p.some p.other) (document d sel from to os) × (height (document d sel from to os) ≤ 66)
+  pub document_sound : (sel : List ℕ) (from to : ℕ) (os : List Tree) → has_only_chars sel ≡ true → AreSound d p os
+      → IsProperTree (top d p.some p.other) (document d sel from to os) × (height (document d sel from to os) ≤ 66)
   document_sound sel from to os chars h =
-      let r = split (ProperIn (around_operations d diff_uri)) (λ o. height o ≤ 65) os h in
+      let r = split (IsProperTree (scope_around_operations d diff_uri)) (λ o. height o ≤ 65) os h in
       (document_proper sel from to os chars r.0, omega (arith, listed_low 65 os r.1))
 
   abbrev pub AreDocuments : List Tree → Type 0
-  AreDocuments ds = AllByRecursion (λ e. ProperIn (top d p.some p.other) e × (height e ≤ 66)) ds
+  AreDocuments ds = AllByRecursion (λ e. IsProperTree (top d p.some p.other) e × (height e ≤ 66)) ds
 
-  one_by_one_sound : (sel : List ℕ) (ns : List Note) → all_chars sel ≡ true → AreSound d p (operations d ns) → AreDocuments (one_by_one d sel ns)
+  one_by_one_sound : (sel : List ℕ) (ns : List Note) → has_only_chars sel ≡ true → AreSound d p (operations d ns) → AreDocuments (patching_documents d sel ns)
   one_by_one_sound sel [] chars h = tt
   one_by_one_sound sel (n ∷ ns) chars h = (document_sound sel n.previous n.next (operation d n ∷ []) chars (h.0, tt), one_by_one_sound sel ns chars h.1)
 
-  at_once_sound : (sel : List ℕ) (tag : ℕ) (ns : List Note) → all_chars sel ≡ true → AreSound d p (operations d ns) → AreDocuments (all_at_once d sel tag ns)
+  at_once_sound : (sel : List ℕ) (tag : ℕ) (ns : List Note) → has_only_chars sel ≡ true → AreSound d p (operations d ns) → AreDocuments (aggregate_documents d sel tag ns)
   at_once_sound sel tag [] chars h = tt
   at_once_sound sel tag (n ∷ ns) chars h = (document_sound sel tag (tag_after tag (n ∷ ns)) (operations d (n ∷ ns)) chars h, tt)
 
   -- ---- diff documents
 
-  pub diff_proper : (root : List ℕ) (ds : List Tree) → all_chars root ≡ true → AreDocuments ds → ProperIn [] (diff d root ds) × (height (diff d root ds) ≤ 67)
+  pub diff_proper : (root : List ℕ) (ds : List Tree) → has_only_chars root ≡ true → AreDocuments ds → IsProperTree [] (diff d root ds) × (height (diff d root ds) ≤ 67)
   diff_proper root ds chars h =
       let here = top d p.some p.other in
-      let r = split (ProperIn here) (λ e. height e ≤ 66) ds h in (
+      let r = split (IsProperTree here) (λ e. height e ≤ 66) ds h in (
         (
           record {
             named = named_ours d p here (codes "xcap-diff") refl (bound_notice d p.some p.other);
@@ -127,15 +127,15 @@ module _ (d : List ℕ) (p : IsDiffPrefix d) where
         omega (arith, listed_low 66 ds r.1),
       )
 
-  pub proper_one_by_one : (root sel : List ℕ) (tag : ℕ) (t : Tree) (ns : List Note) → all_chars root ≡ true → all_chars sel ≡ true → AreNotesOf tag t ns → AreDiffableTrees t ns
-      → AllByRecursion (λ n. declares d n.bindings ≡ false) ns → ProperIn [] (diff d root (one_by_one d sel ns)) × (height (diff d root (one_by_one d sel ns)) ≤ 67)
+  pub proper_one_by_one : (root sel : List ℕ) (tag : ℕ) (t : Tree) (ns : List Note) → has_only_chars root ≡ true → has_only_chars sel ≡ true → AreNotesOf tag t ns → AreDiffableTrees t ns
+      → AllByRecursion (λ n. declares_prefix d n.bindings ≡ false) ns → IsProperTree [] (diff d root (patching_documents d sel ns)) × (height (diff d root (patching_documents d sel ns)) ≤ 67)
   proper_one_by_one root sel tag t ns chars more h are free =
-      diff_proper root (one_by_one d sel ns) chars (one_by_one_sound sel ns more (notes_sound d p tag t ns h are free))
+      diff_proper root (patching_documents d sel ns) chars (one_by_one_sound sel ns more (notes_sound d p tag t ns h are free))
 
-  pub proper_at_once : (root sel : List ℕ) (tag : ℕ) (t : Tree) (ns : List Note) → all_chars root ≡ true → all_chars sel ≡ true → AreNotesOf tag t ns → AreDiffableTrees t ns
-      → AllByRecursion (λ n. declares d n.bindings ≡ false) ns → ProperIn [] (diff d root (all_at_once d sel tag ns)) × (height (diff d root (all_at_once d sel tag ns)) ≤ 67)
+  pub proper_at_once : (root sel : List ℕ) (tag : ℕ) (t : Tree) (ns : List Note) → has_only_chars root ≡ true → has_only_chars sel ≡ true → AreNotesOf tag t ns → AreDiffableTrees t ns
+      → AllByRecursion (λ n. declares_prefix d n.bindings ≡ false) ns → IsProperTree [] (diff d root (aggregate_documents d sel tag ns)) × (height (diff d root (aggregate_documents d sel tag ns)) ≤ 67)
   proper_at_once root sel tag t ns chars more h are free =
-      diff_proper root (all_at_once d sel tag ns) chars (at_once_sound sel tag ns more (notes_sound d p tag t ns h are free))
+      diff_proper root (aggregate_documents d sel tag ns) chars (at_once_sound sel tag ns more (notes_sound d p tag t ns h are free))
 
 -- ---- candidates are prefixes for diff documents
 
@@ -149,13 +149,13 @@ named_digits (x ∷ ds) h = both (is_name_char (48 + x)) (list_all is_name_char 
 named_number : (k : ℕ) → suc k < 2 ^ 64 → list_all is_name_char (decimal (suc k)) ≡ true
 named_number k h = ap (list_all is_name_char) (decimal-digits_of (suc k) (omega arith) h) ∙ named_digits (digits_of 10 (suc k)) (all_below_base_digits_of 10 (suc k) (omega arith))
 
-candidate-name : (k : ℕ) → k < 2 ^ 64 → is_prefix (candidate k) ≡ true
-candidate-name zero h = refl
-candidate-name (suc k) h = named_number k h
+candidate_prefix-name : (k : ℕ) → k < 2 ^ 64 → is_prefix (candidate_prefix k) ≡ true
+candidate_prefix-name zero h = refl
+candidate_prefix-name (suc k) h = named_number k h
 
-candidate-apart : (k : ℕ) → bytes_eq (candidate k) xmlns_prefix ≡ false
-candidate-apart zero = refl
-candidate-apart (suc k) = refl
+candidate_prefix-apart : (k : ℕ) → bytes_eq (candidate_prefix k) xmlns_prefix ≡ false
+candidate_prefix-apart zero = refl
+candidate_prefix-apart (suc k) = refl
 
-pub IsDiffPrefix-candidate : (k : ℕ) → k < 2 ^ 64 → IsDiffPrefix (candidate k)
-IsDiffPrefix-candidate k h = record { some = candidate-some k; other = candidate-other k; apart = candidate-apart k; name = candidate-name k h }
+pub IsDiffPrefix-candidate_prefix : (k : ℕ) → k < 2 ^ 64 → IsDiffPrefix (candidate_prefix k)
+IsDiffPrefix-candidate_prefix k h = record { some = candidate_prefix-some k; other = candidate_prefix-other k; apart = candidate_prefix-apart k; name = candidate_prefix-name k h }

@@ -3,7 +3,7 @@ use Rattle.std.proofs.Common.{◌≡◌, ℕ, true, false, cond, ◌&&◌, List,
 use Rattle.std.proofs.Math.Bool.{and-true}
 use Rattle.std.specs.Cmp.Lexicographic.{bytes_decides}
 use Rattle.xml_names.specs.ExpandedNames.{ExpandedName, attr_name, element_name, same_expanded, same_uri}
-use Rattle.xml_names.specs.Scopes.{bound}
+use Rattle.xml_names.specs.Scopes.{bound_uri}
 use Rattle.xml_names.specs.declared.names.Decl.{Decl}
 use Rattle.xml_names.specs.declared.names.Name.{Name}
 
@@ -13,8 +13,8 @@ named u l = record { uri = u; local = l }
 pub same_local : (u v : Option (List ℕ)) (l : List ℕ) → same_expanded (named u l) (named v l) ≡ same_uri u v
 same_local u v l = ap (λ b. same_uri u v && b) ((bytes_decides l l).1 refl) ∙ and-true (same_uri u v)
 
-pub same_elements : (c d : List (List Decl)) (n : Name) → same_expanded (element_name c n) (element_name d n) ≡ same_uri (bound c n.prefix) (bound d n.prefix)
-same_elements c d n = same_local (bound c n.prefix) (bound d n.prefix) n.local
+pub same_elements : (c d : List (List Decl)) (n : Name) → same_expanded (element_name c n) (element_name d n) ≡ same_uri (bound_uri c n.prefix) (bound_uri d n.prefix)
+same_elements c d n = same_local (bound_uri c n.prefix) (bound_uri d n.prefix) n.local
 
 pub same_attrs : (c d : List (List Decl)) (n : Name) → same_expanded (attr_name c n) (attr_name d n) ≡ same_uri (attr_name c n).uri (attr_name d n).uri
 same_attrs c d n = same_local (attr_name c n).uri (attr_name d n).uri n.local
@@ -23,8 +23,8 @@ same_attrs c d n = same_local (attr_name c n).uri (attr_name d n).uri n.local
 -- its name does
 pub plain_same : (c d : List (List Decl)) (n : Name) → bytes_eq n.prefix [] ≡ true → same_expanded (attr_name c n) (attr_name d n) ≡ true
 plain_same c d n plain =
-    same_attrs c d n ∙ (λ i. same_uri (cond (plain i) None (bound c n.prefix)) (cond (plain i) None (bound d n.prefix)))
+    same_attrs c d n ∙ (λ i. same_uri (cond (plain i) None (bound_uri c n.prefix)) (cond (plain i) None (bound_uri d n.prefix)))
 
 pub prefixed_same : (c d : List (List Decl)) (n : Name) → bytes_eq n.prefix [] ≡ false → same_expanded (attr_name c n) (attr_name d n) ≡ same_expanded (element_name c n) (element_name d n)
 prefixed_same c d n prefixed =
-    same_attrs c d n ∙ (λ i. same_uri (cond (prefixed i) None (bound c n.prefix)) (cond (prefixed i) None (bound d n.prefix))) ∙ sym (same_elements c d n)
+    same_attrs c d n ∙ (λ i. same_uri (cond (prefixed i) None (bound_uri c n.prefix)) (cond (prefixed i) None (bound_uri d n.prefix))) ∙ sym (same_elements c d n)

@@ -8,27 +8,28 @@ use Rattle.patch_parse.specs.declared.operation_error.OperationError.TheVariants
 use Rattle.patch_parse.specs.declared.patch_actions.Position.TheVariants as positions
 use Rattle.patch_parse.specs.declared.patch_actions.PatchAction.TheVariants as tasks
 
-abbrev pub wrong_in : OperationError → words.OperationError
-wrong_in wrongs.Directive = words.Directive
-wrong_in wrongs.Prefix = words.Prefix
-wrong_in wrongs.Unlocated = words.Unlocated
-wrong_in wrongs.RootTouched = words.RootTouched
-wrong_in wrongs.WrongNodes = words.WrongNodes
-wrong_in wrongs.NoSpace = words.NoSpace
+abbrev pub error_view : OperationError → words.OperationError
+error_view wrongs.Directive = words.Directive
+error_view wrongs.Prefix = words.Prefix
+error_view wrongs.Unlocated = words.Unlocated
+error_view wrongs.RootTouched = words.RootTouched
+error_view wrongs.WrongNodes = words.WrongNodes
+error_view wrongs.NoSpace = words.NoSpace
 
-abbrev pub position_in : Position → words.Position
-position_in positions.Behind = words.Behind
-position_in positions.Prepend = words.Prepend
-position_in positions.Before = words.Before
-position_in positions.After = words.After
+abbrev pub position_view : Position → words.Position
+position_view positions.Behind = words.Behind
+position_view positions.Prepend = words.Prepend
+position_view positions.Before = words.Before
+position_view positions.After = words.After
 
-abbrev pub task_in : PatchAction → words.PatchAction
-task_in (tasks.Put position) = words.Put (position_in position)
-task_in (tasks.NewAttr name) = words.NewAttr name
-task_in tasks.Replace = words.Replace
-task_in (tasks.Remove before after) = words.Remove before after
+abbrev pub action_view : PatchAction → words.PatchAction
+action_view (tasks.Put position) = words.Put (position_view position)
+action_view (tasks.NewAttr name) = words.NewAttr name
+action_view tasks.Replace = words.Replace
+action_view (tasks.Remove before after) = words.Remove before after
 
 -- for a part of an operation: the value, or the error
-abbrev pub IsGiven : {X : Type 0} → Result X words.OperationError → Result X OperationError → Type 0
-IsGiven stated (Ok x) = stated ≡ Ok x
-IsGiven stated (Err wrong) = stated ≡ Err (wrong_in wrong)
+abbrev pub IsPartResult : {X : Type 0} → Result X words.OperationError → Result X OperationError
+    → Type 0
+IsPartResult stated (Ok x) = stated ≡ Ok x
+IsPartResult stated (Err wrong) = stated ≡ Err (error_view wrong)

@@ -7,16 +7,16 @@ ghost use Rattle.patch_rules.specs.PatchOperations.{plain_value};
 ghost use Rattle.patch_rules.specs.Replay.{documents, has_diff_name, is_document, is_notice};
 ghost use Rattle.patch_rules.specs.Replay.{is_operation, is_body_unchanged};
 ghost use Rattle.patch_parse.specs.inner.DiffNames.{is_tagged};
-ghost use Rattle.patch_parse.specs.Operations.{ours_in};
+ghost use Rattle.patch_parse.specs.Operations.{operations_in_scope};
 
-use crate::names::{has_diff_name, is_in_diff_namespace, plain_value};
+use crate::diff_names::{has_diff_name, is_in_diff_namespace, plain_value};
 use std::alloc::{AllocError, Global};
 use xml_names::Text;
 use xml_tree::{Element, Node, Scope};
 
 // Whether an element of a diff document is a `document`, in the scope at the root.
 #[tactic(auto, using(crate::proofs::Words::words))]
-fn is_called_document(scope: &Scope<'_>, element: &Element) -> bool
+fn is_document_element(scope: &Scope<'_>, element: &Element) -> bool
     requires { length scope.now < SCOPE_LIMIT }
     ensures exact { result ≡ has_diff_name scope.now (codes "document") element.now }
 {
@@ -36,7 +36,7 @@ pub fn documents(alloc: Global, notice: &Element) -> Result<Vec<&Element>, Alloc
     let mut all = Vec::new(alloc);
     for node in notice.nodes() {
         if let Node::Elem(child_element) = node {
-            if is_called_document(&scope, child_element) {
+            if is_document_element(&scope, child_element) {
                 all.push(child_element)?;
             }
         }
@@ -50,13 +50,14 @@ pub fn documents(alloc: Global, notice: &Element) -> Result<Vec<&Element>, Alloc
 /// # Errors
 /// `NoMemory` when out of memory.
 #[tactic(auto, using(xml_tree::proofs::Places::places))]
-pub fn operations_in<'a>(
+pub fn operations_of_document<'a>(
     alloc: Global,
     scope: &Scope<'_>,
     document: &'a Element,
 ) -> Result<Vec<&'a Element>, AllocError>
     requires { length scope.now < SCOPE_LIMIT }
-    ensures ok { IfOk result (λ all. map (λ x. x.now) all.items ≡ ours_in scope.now document.now) }
+    ensures ok { IfOk result
+        (λ all. map (λ x. x.now) all.items ≡ operations_in_scope scope.now document.now) }
 {
     let mut all = Vec::new(alloc);
     for node in document.nodes() {
@@ -105,7 +106,7 @@ fn are_operations(scope: &Scope<'_>, operations: &[&Element]) -> bool
 }
 
 // Whether an element has an attribute of this local name without prefix.
-fn has_plain(element: &Element, word: &str) -> bool
+fn has_plain_attr(element: &Element, word: &str) -> bool
     ensures exact { result ≡ is_some (plain_value (chars word.now) element.now.attrs) }
 {
     plain_value(element.attrs(), word).is_some()
@@ -141,11 +142,11 @@ fn has_tag(document: &Element) -> bool
 fn has_sel(document: &Element) -> bool
     ensures ok { result ≡ is_some (plain_value (codes "sel") document.now.attrs) }
 {
-    has_plain(document, "sel")
+    has_plain_attr(document, "sel")
 }
 
 // Whether a `document` has a `sel` and at least one etag.
-fn has_names(document: &Element) -> bool
+fn has_sel_and_tag(document: &Element) -> bool
     ensures exact { result ≡ is_tagged document.now.attrs }
 {
     has_sel(document) && has_tag(document)
@@ -156,11 +157,11 @@ fn is_document(alloc: Global, scope: &Scope<'_>, document: &Element) -> Result<b
     requires { length scope.now < 66 }
     ensures ok { IfOk result (λ is. is ≡ is_document scope.now document.now) }
 {
-    if !has_names(document) {
+    if !has_sel_and_tag(document) {
         return Ok(false);
     }
     let here = scope.with(document.decls());
-    let operations = operations_in(alloc, &here, document)?;
+    let operations = operations_of_document(alloc, &here, document)?;
     Ok(is_body_unchanged(&here, &operations) || are_operations(&here, &operations))
 }
 
@@ -195,7 +196,7 @@ pub fn is_notice(alloc: Global, tree: &Element) -> Result<bool, AllocError>
     if !has_diff_name(&Scope::empty(), "xcap-diff", tree) {
         return Ok(false);
     }
-    if !has_plain(tree, "xcap-root") {
+    if !has_plain_attr(tree, "xcap-root") {
         return Ok(false);
     }
     let documents = documents(alloc, tree)?;

@@ -3,13 +3,13 @@
 ghost use Rattle.std.specs.Prelude.{◌≡◌, option_map, chars};
 ghost use Rattle.std.specs.List.{list_all, list_any};
 ghost use Rattle.xml_names.specs.ExpandedNames.{attr_name, element_name, same_expanded, same_uri};
-ghost use Rattle.patch_rules.specs.PatchOperations.{means_alike};
-ghost use Rattle.patch_parse.specs.inner.Contents.{element_alike, node_alike};
+ghost use Rattle.patch_rules.specs.PatchOperations.{names_agree};
+ghost use Rattle.patch_parse.specs.inner.OperationContents.{element_names_agree, node_names_agree};
 
-use crate::names::resolve_prefix;
+use crate::diff_names::resolve_prefix;
 use node_select::same_text;
 use std::alloc::Global;
-use xml_names::{Attr, LocalName, Name, declared_in};
+use xml_names::{Attr, LocalName, Name, index_decls};
 use xml_tree::{Element, LinkedScope, Node, Scope};
 
 // Whether two URIs, of which either may be absent, are equal.
@@ -58,10 +58,15 @@ fn same_attr_names(c: &LinkedScope<'_>, d: &LinkedScope<'_>, attrs: &[Attr]) -> 
 // Whether each name in an element means the same in both scopes around it, which are extended by
 // the same declarations.
 #[cycle(alike)]
-fn element_alike(alloc: Global, c: &LinkedScope<'_>, d: &LinkedScope<'_>, element: &Element) -> bool
-    ensures exact { result ≡ element_alike c.now d.now element.now }
+fn element_names_agree(
+    alloc: Global,
+    c: &LinkedScope<'_>,
+    d: &LinkedScope<'_>,
+    element: &Element,
+) -> bool
+    ensures exact { result ≡ element_names_agree c.now d.now element.now }
 {
-    let declared = declared_in(alloc, element.decls());
+    let declared = index_decls(alloc, element.decls());
     let here = (&*c).inside(&declared);
     let there = (&*d).inside(&declared);
     if !same_element_name(&here, &there, element.name()) {
@@ -70,16 +75,21 @@ fn element_alike(alloc: Global, c: &LinkedScope<'_>, d: &LinkedScope<'_>, elemen
     if !same_attr_names(&here, &there, element.attrs()) {
         return false;
     }
-    content_alike(alloc, &here, &there, element)
+    content_names_agree(alloc, &here, &there, element)
 }
 
 // Whether each name in an element's content means the same in both scopes at the element.
 #[cycle(alike)]
-fn content_alike(alloc: Global, c: &LinkedScope<'_>, d: &LinkedScope<'_>, element: &Element) -> bool
-    ensures exact { result ≡ means_alike c.now d.now element.now.content }
+fn content_names_agree(
+    alloc: Global,
+    c: &LinkedScope<'_>,
+    d: &LinkedScope<'_>,
+    element: &Element,
+) -> bool
+    ensures exact { result ≡ names_agree c.now d.now element.now.content }
 {
     for node in element.nodes() {
-        if !node_alike(alloc, c, d, node) {
+        if !node_names_agree(alloc, c, d, node) {
             return false;
         }
     }
@@ -88,23 +98,23 @@ fn content_alike(alloc: Global, c: &LinkedScope<'_>, d: &LinkedScope<'_>, elemen
 
 // Whether each name in a node means the same in both scopes.
 #[cycle(alike)]
-fn node_alike(alloc: Global, c: &LinkedScope<'_>, d: &LinkedScope<'_>, node: &Node) -> bool
-    ensures exact { result ≡ node_alike c.now d.now node.now }
+fn node_names_agree(alloc: Global, c: &LinkedScope<'_>, d: &LinkedScope<'_>, node: &Node) -> bool
+    ensures exact { result ≡ node_names_agree c.now d.now node.now }
 {
     match node {
-        Node::Elem(child_element) => element_alike(alloc, c, d, child_element),
+        Node::Elem(child_element) => element_names_agree(alloc, c, d, child_element),
         Node::Chars(_) => true,
         Node::Comment(_) => true,
     }
 }
 
 /// Whether each name in an operation means the same in the scope at it and in another.
-pub fn means_alike(alloc: Global, here: &Scope<'_>, there: &Scope<'_>, operation: &Element) -> bool
-    ensures exact { result ≡ means_alike here.now there.now operation.now.content }
+pub fn names_agree(alloc: Global, here: &Scope<'_>, there: &Scope<'_>, operation: &Element) -> bool
+    ensures exact { result ≡ names_agree here.now there.now operation.now.content }
 {
     let here = LinkedScope::from_scope(here);
     let there = LinkedScope::from_scope(there);
-    content_alike(alloc, &here, &there, operation)
+    content_names_agree(alloc, &here, &there, operation)
 }
 
 // ---- the name of a new attribute
@@ -120,7 +130,7 @@ fn attr_uri<'a>(scope: &Scope<'a>, name: &Name) -> Option<&'a str>
 }
 
 /// Whether the name of an attribute means the same in two scopes.
-pub fn attr_alike(here: &Scope<'_>, there: &Scope<'_>, name: &Name) -> bool
+pub fn attr_names_agree(here: &Scope<'_>, there: &Scope<'_>, name: &Name) -> bool
     ensures exact { result
         ≡ same_expanded (attr_name here.now name.now) (attr_name there.now name.now) }
 {
@@ -128,7 +138,7 @@ pub fn attr_alike(here: &Scope<'_>, there: &Scope<'_>, name: &Name) -> bool
 }
 
 // Whether an attribute has this URI and this local name, in the scope at it.
-fn is_of(scope: &Scope<'_>, attr: &Attr, uri: Option<&str>, local: &LocalName) -> bool
+fn has_expanded_name(scope: &Scope<'_>, attr: &Attr, uri: Option<&str>, local: &LocalName) -> bool
     ensures exact { result
         ≡ same_expanded (attr_name scope.now attr.now.name)
         (record { uri = option_map (λ x. chars x.now) uri.entry; local = local.now }) }
@@ -146,5 +156,5 @@ pub fn has_attr(here: &Scope<'_>, there: &Scope<'_>, attrs: &[Attr], name: &Name
     let uri = attr_uri(here, name);
     attrs
         .iter()
-        .any(|attr| is_of(there, attr, uri, &name.local))
+        .any(|attr| has_expanded_name(there, attr, uri, &name.local))
 }

@@ -4,21 +4,21 @@
 //! The standards are RFC 5874 (xcap-diff) and RFC 5261 (patch operations).
 #![tactic(auto)]
 
+mod diff_names;
 mod document_elements;
 mod expanded_names;
-mod names;
 mod operation_content;
 mod operation_error;
 mod patch_actions;
 mod patch_forms;
 mod selectors;
 
+pub use diff_names::{are_known_attributes, plain_value};
 pub use document_elements::{
-    documents, is_body_unchanged, is_notice, new_tag, operations_in, previous_tag,
+    documents, is_body_unchanged, is_notice, new_tag, operations_of_document, previous_tag,
 };
-pub use expanded_names::{attr_alike, has_attr, means_alike};
-pub use names::{are_known_attributes, plain_value};
-pub use operation_content::{is_bare, is_blank, sole_element, value_in};
+pub use expanded_names::{attr_names_agree, has_attr, names_agree};
+pub use operation_content::{content_value, has_only_comments, is_blank, sole_element};
 pub use operation_error::OperationError;
-pub use patch_actions::{PatchAction, Position, task_of_operation};
+pub use patch_actions::{PatchAction, Position, read_patch_action};
 pub use selectors::selector_for;

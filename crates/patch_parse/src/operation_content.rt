@@ -2,33 +2,35 @@
 ghost use Rattle.std.specs.Prelude.{◌≡◌, IfOk, chars};
 ghost use Rattle.std.specs.List.{list_all};
 ghost use Rattle.std.specs.Option.{option_copied};
-ghost use Rattle.patch_rules.specs.PatchOperations.{is_bare, is_white, sole_element, value_in};
-ghost use Rattle.patch_parse.specs.inner.Contents.{is_loose, is_remark, text_in};
+ghost use Rattle.patch_rules.specs.PatchOperations.{has_only_comments, is_white_space};
+ghost use Rattle.patch_rules.specs.PatchOperations.{sole_element, content_value};
+ghost use Rattle.patch_parse.specs.inner.OperationContents.{is_element_or_blank, is_comment};
+ghost use Rattle.patch_parse.specs.inner.OperationContents.{joined_text};
 
 use std::alloc::{AllocError, Global};
 use xml_names::{Text, is_space};
-use xml_tokens::no_text;
+use xml_tokens::empty_text;
 use xml_tree::{Element, Node};
 
 // Whether characters are white space alone.
-fn is_white(text: &str) -> bool
-    ensures exact { result ≡ is_white (chars text.now) }
+fn is_white_space(text: &str) -> bool
+    ensures exact { result ≡ is_white_space (chars text.now) }
 {
     text.chars().all(|c| is_space(c))
 }
 
 /// Whether a text is white space alone.
 pub fn is_blank(text: &Text) -> bool
-    ensures exact { result ≡ is_white text.now }
+    ensures exact { result ≡ is_white_space text.now }
 {
-    is_white(text.as_str())
+    is_white_space(text.as_str())
 }
 
 // The texts among nodes, joined; none where an element is among them.
-fn text_in(alloc: Global, nodes: &[Node]) -> Result<Option<Text>, AllocError>
-    ensures ok { IfOk result (λ text. text ≡ text_in nodes.now) }
+fn joined_text(alloc: Global, nodes: &[Node]) -> Result<Option<Text>, AllocError>
+    ensures ok { IfOk result (λ text. text ≡ joined_text nodes.now) }
 {
-    let mut value = no_text(alloc);
+    let mut value = empty_text(alloc);
     for node in nodes {
         match node {
             Node::Elem(_) => return Ok(None),
@@ -43,15 +45,15 @@ fn text_in(alloc: Global, nodes: &[Node]) -> Result<Option<Text>, AllocError>
 ///
 /// # Errors
 /// `NoMemory` when out of memory.
-pub fn value_in(alloc: Global, operation: &Element) -> Result<Option<Text>, AllocError>
-    ensures ok { IfOk result (λ value. value ≡ value_in operation.now.content) }
+pub fn content_value(alloc: Global, operation: &Element) -> Result<Option<Text>, AllocError>
+    ensures ok { IfOk result (λ value. value ≡ content_value operation.now.content) }
 {
-    text_in(alloc, operation.nodes())
+    joined_text(alloc, operation.nodes())
 }
 
 // Whether a node is an element, a comment or white space.
-fn is_loose(node: &Node) -> bool
-    ensures exact { result ≡ is_loose node.now }
+fn is_element_or_blank(node: &Node) -> bool
+    ensures exact { result ≡ is_element_or_blank node.now }
 {
     match node {
         Node::Elem(_) => true,
@@ -61,10 +63,10 @@ fn is_loose(node: &Node) -> bool
 }
 
 // Whether each node is an element, a comment or white space.
-fn are_loose(nodes: &[Node]) -> bool
-    ensures exact { result ≡ list_all is_loose nodes.now }
+fn are_elements_or_blanks(nodes: &[Node]) -> bool
+    ensures exact { result ≡ list_all is_element_or_blank nodes.now }
 {
-    nodes.iter().all(|node| is_loose(node))
+    nodes.iter().all(|node| is_element_or_blank(node))
 }
 
 /// The one element in an element that has at most white space and comments beside it.
@@ -74,15 +76,15 @@ pub fn sole_element(operation: &Element) -> Option<&Element>
     if operation.child_element(1).is_some() {
         return None;
     }
-    if !are_loose(operation.nodes()) {
+    if !are_elements_or_blanks(operation.nodes()) {
         return None;
     }
     operation.child_element(0)
 }
 
 // Whether a node is a comment.
-fn is_remark(node: &Node) -> bool
-    ensures exact { result ≡ is_remark node.now }
+fn is_comment(node: &Node) -> bool
+    ensures exact { result ≡ is_comment node.now }
 {
     match node {
         Node::Elem(_) => false,
@@ -92,15 +94,15 @@ fn is_remark(node: &Node) -> bool
 }
 
 // Whether all nodes are comments.
-fn are_remarks(nodes: &[Node]) -> bool
-    ensures exact { result ≡ list_all is_remark nodes.now }
+fn are_comments(nodes: &[Node]) -> bool
+    ensures exact { result ≡ list_all is_comment nodes.now }
 {
-    nodes.iter().all(|node| is_remark(node))
+    nodes.iter().all(|node| is_comment(node))
 }
 
 /// Whether an element has neither elements nor texts in it.
-pub fn is_bare(operation: &Element) -> bool
-    ensures exact { result ≡ is_bare operation.now.content }
+pub fn has_only_comments(operation: &Element) -> bool
+    ensures exact { result ≡ has_only_comments operation.now.content }
 {
-    are_remarks(operation.nodes())
+    are_comments(operation.nodes())
 }

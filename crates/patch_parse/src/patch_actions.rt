@@ -2,15 +2,16 @@
 //! 4.5).
 ghost use Rattle.std.specs.Prelude.{◌≡◌, [], IfOk, option_map};
 ghost use Rattle.std.specs.Option.{option_copied};
-ghost use Rattle.patch_rules.specs.PatchOperations.{add_action, remove_action, name_cut};
-ghost use Rattle.patch_rules.specs.PatchOperations.{no_declaration};
-ghost use Rattle.patch_rules.specs.PatchOperations.{add_position, name_of_text, white_space_of};
-ghost use Rattle.patch_rules.specs.PatchOperations.{task_of, type_of, with_prefix, operation_word};
+ghost use Rattle.patch_rules.specs.PatchOperations.{add_action, remove_action, name_of_parts};
+ghost use Rattle.patch_rules.specs.PatchOperations.{reject_xmlns};
+ghost use Rattle.patch_rules.specs.PatchOperations.{parse_position, parse_qname, parse_ws};
+ghost use Rattle.patch_rules.specs.PatchOperations.{action_by_name, parse_attr_name, prefixed_name};
+ghost use Rattle.patch_rules.specs.PatchOperations.{parse_operation_name};
 ghost use Rattle.patch_rules.specs.PatchOperations.{operation_action};
-ghost use Rattle.patch_parse.specs.Views.{position_in, task_in};
-ghost use Rattle.patch_parse.specs.inner.DiffNames.{word_in};
+ghost use Rattle.patch_parse.specs.Views.{position_view, action_view};
+ghost use Rattle.patch_parse.specs.inner.DiffNames.{operation_name_view};
 
-use crate::names::plain_value;
+use crate::diff_names::plain_value;
 use std::alloc::{AllocError, Global};
 use xml_names::{Attr, LocalName, Name, Prefix, Text, is_name};
 use xml_tokens::{chars_of_text, name_part};
@@ -52,8 +53,8 @@ pub enum PatchAction {
 // ---- the values of attributes
 
 #[tactic(auto, using(crate::proofs::Words::words))]
-fn word_of(local: &LocalName) -> Option<OperationName>
-    ensures exact { option_map word_in result ≡ operation_word local.now }
+fn read_operation_name(local: &LocalName) -> Option<OperationName>
+    ensures exact { option_map operation_name_view result ≡ parse_operation_name local.now }
 {
     if local.is("add") {
         return Some(OperationName::Add);
@@ -68,8 +69,8 @@ fn word_of(local: &LocalName) -> Option<OperationName>
 }
 
 #[tactic(auto, using(crate::proofs::Words::words))]
-fn position_of(text: &Text) -> Option<Position>
-    ensures exact { option_map position_in result ≡ add_position text.now }
+fn read_position(text: &Text) -> Option<Position>
+    ensures exact { option_map position_view result ≡ parse_position text.now }
 {
     if text.is("prepend") {
         return Some(Position::Prepend);
@@ -84,8 +85,8 @@ fn position_of(text: &Text) -> Option<Position>
 }
 
 #[tactic(auto, using(crate::proofs::Words::words))]
-fn space_of(text: &Text) -> Option<(bool, bool)>
-    ensures exact { result ≡ white_space_of text.now }
+fn read_ws(text: &Text) -> Option<(bool, bool)>
+    ensures exact { result ≡ parse_ws text.now }
 {
     if text.is("before") {
         return Some((true, false));
@@ -102,8 +103,8 @@ fn space_of(text: &Text) -> Option<(bool, bool)>
 // ---- names of new attributes
 
 // A name of two parts, where both are NCNames.
-fn with_prefix(alloc: Global, prefix: &[char], local: &[char]) -> Result<Option<Name>, AllocError>
-    ensures ok { IfOk result (λ name. name ≡ with_prefix prefix.now local.now) }
+fn prefixed_name(alloc: Global, prefix: &[char], local: &[char]) -> Result<Option<Name>, AllocError>
+    ensures ok { IfOk result (λ name. name ≡ prefixed_name prefix.now local.now) }
 {
     let prefix: Prefix = name_part(alloc, prefix)?;
     let local: LocalName = name_part(alloc, local)?;
@@ -114,8 +115,8 @@ fn with_prefix(alloc: Global, prefix: &[char], local: &[char]) -> Result<Option<
 }
 
 // A name without prefix, where it is an NCName.
-fn without_prefix(alloc: Global, local: &[char]) -> Result<Option<Name>, AllocError>
-    ensures ok { IfOk result (λ name. name ≡ name_cut local.now []) }
+fn unprefixed_name(alloc: Global, local: &[char]) -> Result<Option<Name>, AllocError>
+    ensures ok { IfOk result (λ name. name ≡ name_of_parts local.now []) }
 {
     let local: LocalName = name_part(alloc, local)?;
     if !is_name(local.as_str()) {
@@ -127,21 +128,21 @@ fn without_prefix(alloc: Global, local: &[char]) -> Result<Option<Name>, AllocEr
 
 // A QName, cut at its first colon.
 #[tactic(auto, using(patch_rules::proofs::NameCuts::cut_from_front))]
-fn name_of_text(alloc: Global, text: &[char]) -> Result<Option<Name>, AllocError>
-    ensures ok { IfOk result (λ name. name ≡ name_of_text text.now) }
+fn parse_qname(alloc: Global, text: &[char]) -> Result<Option<Name>, AllocError>
+    ensures ok { IfOk result (λ name. name ≡ parse_qname text.now) }
 {
     for (i, &c) in text.iter().enumerate() {
         if c == ':' {
-            return with_prefix(alloc, &text[..i], &text[i + 1..]);
+            return prefixed_name(alloc, &text[..i], &text[i + 1..]);
         }
     }
-    without_prefix(alloc, text)
+    unprefixed_name(alloc, text)
 }
 
 // A name that isn't `xmlns`.
 #[tactic(auto, using(crate::proofs::Words::words))]
-fn no_declaration(name: Name) -> Option<Name>
-    ensures exact { result ≡ no_declaration name }
+fn reject_xmlns(name: Name) -> Option<Name>
+    ensures exact { result ≡ reject_xmlns name }
 {
     if name.has_no_prefix() && name.local.is("xmlns") {
         return None;
@@ -150,24 +151,24 @@ fn no_declaration(name: Name) -> Option<Name>
 }
 
 // A QName after `@`, in characters.
-fn type_in(alloc: Global, text: &[char]) -> Result<Option<Name>, AllocError>
-    ensures ok { IfOk result (λ name. name ≡ type_of text.now) }
+fn parse_attr_name_chars(alloc: Global, text: &[char]) -> Result<Option<Name>, AllocError>
+    ensures ok { IfOk result (λ name. name ≡ parse_attr_name text.now) }
 {
     match text {
-        ['@', rest @ ..] => match name_of_text(alloc, rest)? {
+        ['@', rest @ ..] => match parse_qname(alloc, rest)? {
             None => Ok(None),
-            Some(name) => Ok(no_declaration(name)),
+            Some(name) => Ok(reject_xmlns(name)),
         },
         _ => Ok(None),
     }
 }
 
 // The name of a new attribute.
-fn type_of(alloc: Global, text: &Text) -> Result<Option<Name>, AllocError>
-    ensures ok { IfOk result (λ name. name ≡ type_of text.now) }
+fn parse_attr_name(alloc: Global, text: &Text) -> Result<Option<Name>, AllocError>
+    ensures ok { IfOk result (λ name. name ≡ parse_attr_name text.now) }
 {
     let all = chars_of_text(alloc, text.as_str())?;
-    type_in(alloc, &all)
+    parse_attr_name_chars(alloc, &all)
 }
 
 // ---- patch actions
@@ -179,16 +180,16 @@ fn add_action(
     name: Option<&Text>,
 ) -> Result<Option<PatchAction>, AllocError>
     ensures ok { IfOk result
-        (λ task. option_map task_in task
+        (λ task. option_map action_view task
         ≡ add_action (option_copied pos.entry) (option_copied name.entry)) }
 {
     match (pos, name) {
         (None, None) => Ok(Some(PatchAction::Put(Position::Behind))),
-        (Some(pos), None) => match position_of(pos) {
+        (Some(pos), None) => match read_position(pos) {
             None => Ok(None),
             Some(position) => Ok(Some(PatchAction::Put(position))),
         },
-        (None, Some(name)) => match type_of(alloc, name)? {
+        (None, Some(name)) => match parse_attr_name(alloc, name)? {
             None => Ok(None),
             Some(name) => Ok(Some(PatchAction::NewAttr(name))),
         },
@@ -198,11 +199,11 @@ fn add_action(
 
 // A removal.
 fn remove_action(ws: Option<&Text>) -> Option<PatchAction>
-    ensures exact { option_map task_in result ≡ remove_action (option_copied ws.entry) }
+    ensures exact { option_map action_view result ≡ remove_action (option_copied ws.entry) }
 {
     match ws {
         None => Some(PatchAction::Remove(false, false)),
-        Some(ws) => match space_of(ws) {
+        Some(ws) => match read_ws(ws) {
             None => None,
             Some((before, after)) => Some(PatchAction::Remove(before, after)),
         },
@@ -210,7 +211,7 @@ fn remove_action(ws: Option<&Text>) -> Option<PatchAction>
 }
 
 // The action of an operation's name with the attributes `pos`, `type` and `ws`.
-fn task_of(
+fn action_by_name(
     alloc: Global,
     word: OperationName,
     pos: Option<&Text>,
@@ -218,8 +219,9 @@ fn task_of(
     ws: Option<&Text>,
 ) -> Result<Option<PatchAction>, AllocError>
     ensures ok { IfOk result
-        (λ task. option_map task_in task
-        ≡ task_of (word_in word) (option_copied pos.entry) (option_copied name.entry)
+        (λ task. option_map action_view task
+        ≡ action_by_name (operation_name_view word) (option_copied pos.entry)
+        (option_copied name.entry)
         (option_copied ws.entry)) }
 {
     match word {
@@ -250,19 +252,19 @@ fn task_of(
 /// # Errors
 /// `NoMemory` when out of memory.
 #[tactic(auto, using(crate::proofs::Words::words))]
-pub fn task_of_operation(
+pub fn read_patch_action(
     alloc: Global,
     name: &Name,
     attrs: &[Attr],
 ) -> Result<Option<PatchAction>, AllocError>
     ensures ok { IfOk result
-        (λ task. option_map task_in task ≡ operation_action name.now attrs.now) }
+        (λ task. option_map action_view task ≡ operation_action name.now attrs.now) }
 {
-    let Some(word) = word_of(&name.local) else {
+    let Some(word) = read_operation_name(&name.local) else {
         return Ok(None);
     };
     let pos = plain_value(attrs, "pos");
     let name = plain_value(attrs, "type");
     let ws = plain_value(attrs, "ws");
-    task_of(alloc, word, pos, name, ws)
+    action_by_name(alloc, word, pos, name, ws)
 }

@@ -1,16 +1,17 @@
 //! The selector of an operation (RFC 5261, section 4.1).
 ghost use Rattle.std.specs.Prelude.{◌≡◌, ◌||◌, [], IfOk, chars, is_some, unwrap_or, Err};
 ghost use Rattle.std.specs.Str.{bytes_eq};
-ghost use Rattle.xml_names.specs.Memory.{Answered};
-ghost use Rattle.xml_names.specs.Scopes.{bindings_in, bound};
+ghost use Rattle.xml_names.specs.ReadErrors.{ResultSatisfies};
+ghost use Rattle.xml_names.specs.Scopes.{in_scope_bindings, bound_uri};
 ghost use Rattle.node_select.specs.Faults.{form_of as end_form};
 ghost use Rattle.node_select.specs.Names.{prefix_uri};
-ghost use Rattle.patch_rules.specs.PatchOperations.{is_element_form, suits};
-ghost use Rattle.patch_rules.specs.readers.AppliedOperations.{reading_in};
-ghost use Rattle.patch_parse.specs.inner.Forms.{IsRefused, IsUnbound, is_type_bound, unbound_with};
-ghost use Rattle.patch_parse.specs.Views.{IsGiven};
-ghost use Rattle.patch_parse.specs.Operations.{selector_tested};
-ghost use Rattle.patch_parse.specs.Views.{task_in, wrong_in};
+ghost use Rattle.patch_rules.specs.PatchOperations.{is_element_form, accepts_form};
+ghost use Rattle.patch_rules.specs.readers.AppliedOperations.{selector_reading};
+ghost use Rattle.patch_parse.specs.inner.SelectorErrors.{IsSelectorFault, HasUnboundPrefix};
+ghost use Rattle.patch_parse.specs.inner.SelectorErrors.{is_type_prefix_bound_by, unbound_error};
+ghost use Rattle.patch_parse.specs.Views.{IsPartResult};
+ghost use Rattle.patch_parse.specs.Operations.{checked_selector};
+ghost use Rattle.patch_parse.specs.Views.{action_view, error_view};
 
 use crate::operation_error::OperationError;
 use crate::patch_actions::PatchAction;
@@ -24,7 +25,7 @@ use xml_tree::Scope;
 
 // All bindings in a scope.
 fn bindings_of(alloc: Global, scope: &Scope<'_>) -> Result<Bindings, AllocError>
-    ensures ok { IfOk result (λ made. made ≡ bindings_in scope.now) }
+    ensures ok { IfOk result (λ made. made ≡ in_scope_bindings scope.now) }
 {
     let all = scope.bindings(alloc)?;
     let mut made = Bindings::none(alloc);
@@ -36,7 +37,7 @@ fn bindings_of(alloc: Global, scope: &Scope<'_>) -> Result<Bindings, AllocError>
 
 // The default namespace in a scope, which is empty where there is none.
 fn default_uri<'a>(scope: &Scope<'a>) -> &'a str
-    ensures default_namespace { chars result.now ≡ unwrap_or (bound scope.now []) [] }
+    ensures default_namespace { chars result.now ≡ unwrap_or (bound_uri scope.now []) [] }
 {
     match scope.resolve("") {
         Some(uri) => uri,
@@ -67,8 +68,8 @@ fn is_element(form: PatchForm) -> bool
 }
 
 // Whether a selector of this form suits a patch action.
-fn suits(task: &PatchAction, form: PatchForm) -> bool
-    ensures exact { result ≡ suits (task_in task.now) form }
+fn accepts_form(task: &PatchAction, form: PatchForm) -> bool
+    ensures exact { result ≡ accepts_form (action_view task.now) form }
 {
     match task {
         PatchAction::Put(_) => is_element(form),
@@ -79,7 +80,7 @@ fn suits(task: &PatchAction, form: PatchForm) -> bool
 }
 
 // Whether the prefix of a name is bound.
-fn is_bound(bindings: &Bindings, name: &Name) -> bool
+fn is_prefix_bound(bindings: &Bindings, name: &Name) -> bool
     ensures exact { result
         ≡ (bytes_eq name.now.prefix [] || is_some (prefix_uri bindings.now name.now.prefix)) }
 {
@@ -87,12 +88,12 @@ fn is_bound(bindings: &Bindings, name: &Name) -> bool
 }
 
 // Whether the prefix of a new attribute's name is bound.
-fn is_bound_type(bindings: &Bindings, task: &PatchAction) -> bool
-    ensures exact { result ≡ is_type_bound bindings.now (task_in task.now) }
+fn is_type_prefix_bound(bindings: &Bindings, task: &PatchAction) -> bool
+    ensures exact { result ≡ is_type_prefix_bound_by bindings.now (action_view task.now) }
 {
     match task {
         PatchAction::Put(_) => true,
-        PatchAction::NewAttr(name) => is_bound(bindings, name),
+        PatchAction::NewAttr(name) => is_prefix_bound(bindings, name),
         PatchAction::Replace => true,
         PatchAction::Remove(_, _) => true,
     }
@@ -110,16 +111,16 @@ pub fn selector_for(
     sel: &Text,
     task: &PatchAction,
 ) -> Result<PatchSelector, ReadError<OperationError>>
-    ensures grammar_answer { Answered
-        (IsGiven (selector_tested here.now sel.now (task_in task.now))) result }
+    ensures grammar_answer { ResultSatisfies
+        (IsPartResult (checked_selector here.now sel.now (action_view task.now))) result }
 {
     let bindings = bindings_of(alloc, here)?;
     match read_patch_selector(alloc, sel.as_str(), &bindings, default_uri(here)) {
         Ok(selector) => {
-            if !suits(task, form_of(&selector.end)) {
+            if !accepts_form(task, form_of(&selector.end)) {
                 return Err(ReadError::Fault(OperationError::Directive));
             }
-            if !is_bound_type(&bindings, task) {
+            if !is_type_prefix_bound(&bindings, task) {
                 return Err(ReadError::Fault(OperationError::Prefix));
             }
             Ok(selector)
@@ -137,39 +138,39 @@ fn selector_error(
     task: &PatchAction,
     fault: SelectorFault,
 ) -> ReadError<OperationError>
-    requires { IsRefused (reading_in sel.now) here.now fault }
-    ensures selector_fault { Answered
-        (IsGiven (selector_tested here.now sel.now (task_in task.now))) (Err result) }
+    requires { IsSelectorFault (selector_reading sel.now) here.now fault }
+    ensures selector_fault { ResultSatisfies
+        (IsPartResult (checked_selector here.now sel.now (action_view task.now))) (Err result) }
 {
     match fault {
         SelectorFault::BadSelector(_) => ReadError::Fault(OperationError::Directive),
-        SelectorFault::UnboundPrefix(_) => unbound(alloc, here, sel, task),
+        SelectorFault::UnboundPrefix(_) => unbound_selector_error(alloc, here, sel, task),
     }
 }
 
 // The error of a selector with an unbound prefix: its end may not suit the patch action.
-fn unbound(
+fn unbound_selector_error(
     alloc: Global,
     here: &Scope<'_>,
     sel: &Text,
     task: &PatchAction,
 ) -> ReadError<OperationError>
-    requires { IsUnbound (reading_in sel.now) here.now }
-    ensures selector_fault { Answered
-        (IsGiven (selector_tested here.now sel.now (task_in task.now))) (Err result) }
+    requires { HasUnboundPrefix (selector_reading sel.now) here.now }
+    ensures selector_fault { ResultSatisfies
+        (IsPartResult (checked_selector here.now sel.now (action_view task.now))) (Err result) }
 {
     match patch_form(alloc, sel) {
         Err(_) => ReadError::NoMemory,
         Ok(None) => ReadError::Fault(OperationError::Directive),
-        Ok(Some(form)) => ReadError::Fault(wrong_with(task, form)),
+        Ok(Some(form)) => ReadError::Fault(unbound_prefix_error(task, form)),
     }
 }
 
 // The error of an unbound prefix, where the selector has this form.
-fn wrong_with(task: &PatchAction, form: PatchForm) -> OperationError
-    ensures end_before_prefixes { wrong_in result ≡ unbound_with (task_in task.now) form }
+fn unbound_prefix_error(task: &PatchAction, form: PatchForm) -> OperationError
+    ensures end_before_prefixes { error_view result ≡ unbound_error (action_view task.now) form }
 {
-    if suits(task, form) {
+    if accepts_form(task, form) {
         OperationError::Prefix
     } else {
         OperationError::Directive

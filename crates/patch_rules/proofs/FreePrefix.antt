@@ -6,19 +6,19 @@ use Rattle.std.proofs.lemmas.Slice.Eq.{bytes_eq-Decides}
 use Rattle.std.specs.Set.{is_member}
 use Rattle.xml_tree.specs.Tree.{Content, last, more, comment_node, Tree}
 use Rattle.xml_names.specs.declared.names.Decl.{Decl}
-use Rattle.patch_rules.specs.inner.DeclaredPrefixes.{prefixes, prefixes_in}
-use Rattle.patch_rules.specs.Notices.{IsFirstFree, candidate, declarations, declarations_in, declares, first_free, is_declared_in, is_taken}
+use Rattle.patch_rules.specs.inner.DeclaredPrefixes.{declared_prefixes, content_prefixes}
+use Rattle.patch_rules.specs.Notices.{IsFirstFreeCandidate, candidate_prefix, count_declarations, count_content_declarations, declares_prefix, first_free_candidate, content_declares_prefix, is_prefix_taken}
 
 -- ---- candidates
 
 not_empty : (k : ℕ) → suc k < 2 ^ 64 → [] ≡ decimal (suc k) → ⊥
 not_empty k h e = let n = decimal_nonempty (suc k) h in let z : length (decimal (suc k)) ≡ 0 = ap length (sym e) in absurd (omega arith)
 
-pub candidate-one : (i k : ℕ) → i < 2 ^ 64 → k < 2 ^ 64 → candidate i ≡ candidate k → i ≡ k
-candidate-one zero zero h g e = refl
-candidate-one zero (suc k) h g e = absurd (not_empty k g (cc))
-candidate-one (suc i) zero h g e = absurd (not_empty i h (cc))
-candidate-one (suc i) (suc k) h g e = decimal_injective (suc i) (suc k) h g (cc)
+pub candidate_prefix-one : (i k : ℕ) → i < 2 ^ 64 → k < 2 ^ 64 → candidate_prefix i ≡ candidate_prefix k → i ≡ k
+candidate_prefix-one zero zero h g e = refl
+candidate_prefix-one zero (suc k) h g e = absurd (not_empty k g (cc))
+candidate_prefix-one (suc i) zero h g e = absurd (not_empty i h (cc))
+candidate_prefix-one (suc i) (suc k) h g e = decimal_injective (suc i) (suc k) h g (cc)
 
 -- ---- what is declared, as a list
 
@@ -33,39 +33,39 @@ among-append p (x ∷ xs) ys = ap (λ b. bytes_eq p x || b) (among-append p xs y
 -- the prefixes that operations declare
 abbrev pub whole : List Tree → List (List ℕ)
 whole [] = []
-whole (o ∷ os) = (prefixes o.decls ++ prefixes_in o.content) ++ whole os
+whole (o ∷ os) = (declared_prefixes o.decls ++ content_prefixes o.content) ++ whole os
 
-declared_here : (p : List ℕ) (ds : List Decl) → declares p ds ≡ is_member bytes_eq (prefixes ds) p
+declared_here : (p : List ℕ) (ds : List Decl) → declares_prefix p ds ≡ is_member bytes_eq (declared_prefixes ds) p
 declared_here p [] = refl
 declared_here p (d ∷ ds) = λ i. nat_list_eq_equiv.symm d.prefix p i || declared_here p ds i
 
-declared_within : (p : List ℕ) (k : Content) → is_declared_in p k ≡ is_member bytes_eq (prefixes_in k) p
+declared_within : (p : List ℕ) (k : Content) → content_declares_prefix p k ≡ is_member bytes_eq (content_prefixes k) p
 declared_within p (last t) = refl
 declared_within p (more t n ds ats c rest) =
     (λ i. declared_here p ds i || (declared_within p c i || declared_within p rest i))
-    ∙ ap (λ b. is_member bytes_eq (prefixes ds) p || b) (sym (among-append p (prefixes_in c) (prefixes_in rest))) ∙ sym (among-append p (prefixes ds) (prefixes_in c ++ prefixes_in rest))
+    ∙ ap (λ b. is_member bytes_eq (declared_prefixes ds) p || b) (sym (among-append p (content_prefixes c) (content_prefixes rest))) ∙ sym (among-append p (declared_prefixes ds) (content_prefixes c ++ content_prefixes rest))
 declared_within p (comment_node t x rest) = declared_within p rest
 
-pub taken_whole : (os : List Tree) (p : List ℕ) → is_taken os p ≡ is_member bytes_eq (whole os) p
+pub taken_whole : (os : List Tree) (p : List ℕ) → is_prefix_taken os p ≡ is_member bytes_eq (whole os) p
 taken_whole [] p = refl
 taken_whole (o ∷ os) p =
     (λ i. (declared_here p o.decls i || declared_within p o.content i) || taken_whole os p i)
-    ∙ ap (λ b. b || is_member bytes_eq (whole os) p) (sym (among-append p (prefixes o.decls) (prefixes_in o.content))) ∙ sym (among-append p (prefixes o.decls ++ prefixes_in o.content) (whole os))
+    ∙ ap (λ b. b || is_member bytes_eq (whole os) p) (sym (among-append p (declared_prefixes o.decls) (content_prefixes o.content))) ∙ sym (among-append p (declared_prefixes o.decls ++ content_prefixes o.content) (whole os))
 
-length-prefixes : (ds : List Decl) → length (prefixes ds) ≡ length ds
-length-prefixes [] = refl
-length-prefixes (d ∷ ds) = ap suc (length-prefixes ds)
+length-declared_prefixes : (ds : List Decl) → length (declared_prefixes ds) ≡ length ds
+length-declared_prefixes [] = refl
+length-declared_prefixes (d ∷ ds) = ap suc (length-declared_prefixes ds)
 
-length-within : (k : Content) → length (prefixes_in k) ≡ declarations_in k
+length-within : (k : Content) → length (content_prefixes k) ≡ count_content_declarations k
 length-within (last t) = refl
 length-within (more t n ds ats c rest) =
-    omega (arith, length-append (prefixes ds) (prefixes_in c ++ prefixes_in rest), length-append (prefixes_in c) (prefixes_in rest), length-prefixes ds, length-within c, length-within rest)
+    omega (arith, length-append (declared_prefixes ds) (content_prefixes c ++ content_prefixes rest), length-append (content_prefixes c) (content_prefixes rest), length-declared_prefixes ds, length-within c, length-within rest)
 length-within (comment_node t x rest) = length-within rest
 
-pub length-whole : (os : List Tree) → length (whole os) ≡ declarations os
+pub length-whole : (os : List Tree) → length (whole os) ≡ count_declarations os
 length-whole [] = refl
 length-whole (o ∷ os) =
-    omega (arith, length-append (prefixes o.decls ++ prefixes_in o.content) (whole os), length-append (prefixes o.decls) (prefixes_in o.content), length-prefixes o.decls, length-within o.content, length-whole os)
+    omega (arith, length-append (declared_prefixes o.decls ++ content_prefixes o.content) (whole os), length-append (declared_prefixes o.decls) (content_prefixes o.content), length-declared_prefixes o.decls, length-within o.content, length-whole os)
 
 -- ---- the first of several candidates
 
@@ -96,36 +96,36 @@ is_none [] p le h = cc
 is_none (q ∷ qs) p le h = omega arith
 
 module _ (taken : List ℕ → Bool) (bound : ℕ) (room : bound < 2 ^ 64) where
-  free_from : (f k : ℕ) (left : List (List ℕ)) → length left ≤ f → k + f ≤ bound → ((i : ℕ) → k ≤ i → i ≤ bound → taken (candidate i) ≡ true → is_member bytes_eq left (candidate i) ≡ true)
-      → (b : Bool) → taken (candidate k) ≡ b → taken (candidate (first_free taken f k)) ≡ false
+  free_from : (f k : ℕ) (left : List (List ℕ)) → length left ≤ f → k + f ≤ bound → ((i : ℕ) → k ≤ i → i ≤ bound → taken (candidate_prefix i) ≡ true → is_member bytes_eq left (candidate_prefix i) ≡ true)
+      → (b : Bool) → taken (candidate_prefix k) ≡ b → taken (candidate_prefix (first_free_candidate taken f k)) ≡ false
   free_from zero k left le low h false e = e
-  free_from zero k left le low h true e = absurd (is_none left (candidate k) le (h k (omega arith) (omega arith) e))
+  free_from zero k left le low h true e = absurd (is_none left (candidate_prefix k) le (h k (omega arith) (omega arith) e))
   free_from (suc f) k left le low h false e = rw e e
   free_from (suc f) k left le low h true e =
-      let there : is_member bytes_eq left (candidate k) ≡ true = h k (omega arith) (omega arith) e in
-      let shorter : suc (length (without (candidate k) left)) ≡ length left = length-without (candidate k) left there in
-      rw e (free_from f (suc k) (without (candidate k) left) (omega arith) (omega arith)
-      (λ i le' high m. among-without (candidate k) (candidate i) left (λ s. absurd (omega (arith, candidate-one k i (omega arith) (omega arith) s))) (h i (omega arith) high m))
-      (taken (candidate (suc k))) refl)
+      let there : is_member bytes_eq left (candidate_prefix k) ≡ true = h k (omega arith) (omega arith) e in
+      let shorter : suc (length (without (candidate_prefix k) left)) ≡ length left = length-without (candidate_prefix k) left there in
+      rw e (free_from f (suc k) (without (candidate_prefix k) left) (omega arith) (omega arith)
+      (λ i le' high m. among-without (candidate_prefix k) (candidate_prefix i) left (λ s. absurd (omega (arith, candidate_prefix-one k i (omega arith) (omega arith) s))) (h i (omega arith) high m))
+      (taken (candidate_prefix (suc k))) refl)
 
-first_from : (taken : List ℕ → Bool) (f k j : ℕ) → k ≤ j → j < first_free taken f k → taken (candidate j) ≡ true
+first_from : (taken : List ℕ → Bool) (f k j : ℕ) → k ≤ j → j < first_free_candidate taken f k → taken (candidate_prefix j) ≡ true
 first_from taken zero k j le lt = absurd (omega arith)
-first_from taken (suc f) k j le lt = by (taken (candidate k)) refl (first_from taken f (suc k) j)
+first_from taken (suc f) k j le lt = by (taken (candidate_prefix k)) refl (first_from taken f (suc k) j)
   where
     here : (n m : ℕ) → n ≤ m → (n ≡ m → ⊥) → suc n ≤ m
     here n m a b = omega (arith, b)
 
-    eq : (b : Bool) → nat_eq k j ≡ b → taken (candidate k) ≡ true → (suc k ≤ j → taken (candidate j) ≡ true) → taken (candidate j) ≡ true
-    eq true s e rest = ap (λ x. taken (candidate x)) (sym (eqb-true k j s)) ∙ e
+    eq : (b : Bool) → nat_eq k j ≡ b → taken (candidate_prefix k) ≡ true → (suc k ≤ j → taken (candidate_prefix j) ≡ true) → taken (candidate_prefix j) ≡ true
+    eq true s e rest = ap (λ x. taken (candidate_prefix x)) (sym (eqb-true k j s)) ∙ e
     eq false s e rest = rest (here k j le (λ z. let w : true ≡ false = sym (eq-eqb k j z) ∙ s in absurd cc))
 
-    by : (b : Bool) → taken (candidate k) ≡ b → (suc k ≤ j → j < first_free taken f (suc k) → taken (candidate j) ≡ true) → taken (candidate j) ≡ true
+    by : (b : Bool) → taken (candidate_prefix k) ≡ b → (suc k ≤ j → j < first_free_candidate taken f (suc k) → taken (candidate_prefix j) ≡ true) → taken (candidate_prefix j) ≡ true
     by true e rest = eq (nat_eq k j) refl e (λ more. rest more (rw e at lt))
     by false e rest = absurd (let z : j < k = rw e at lt in omega arith)
 
-pub is_first_free : (os : List Tree) → declarations os < 2 ^ 64 → IsFirstFree (is_taken os) (first_free (is_taken os) (declarations os) 0)
+pub is_first_free : (os : List Tree) → count_declarations os < 2 ^ 64 → IsFirstFreeCandidate (is_prefix_taken os) (first_free_candidate (is_prefix_taken os) (count_declarations os) 0)
 is_first_free os room = record {
-  free = free_from (is_taken os) (declarations os) room (declarations os) 0 (whole os) (omega (arith, length-whole os)) (omega arith)
-      (λ i _ _ m. sym (taken_whole os (candidate i)) ∙ m) (is_taken os (candidate 0)) refl;
-  first = λ j lt. first_from (is_taken os) (declarations os) 0 j (omega arith) lt;
+  free = free_from (is_prefix_taken os) (count_declarations os) room (count_declarations os) 0 (whole os) (omega (arith, length-whole os)) (omega arith)
+      (λ i _ _ m. sym (taken_whole os (candidate_prefix i)) ∙ m) (is_prefix_taken os (candidate_prefix 0)) refl;
+  first = λ j lt. first_from (is_prefix_taken os) (count_declarations os) 0 j (omega arith) lt;
 }

@@ -1,4 +1,4 @@
 -- What private functions and proofs use. No clause of a public call needs it.
+pub mod AppendedElements
 pub mod DeclaredPrefixes
-pub mod Lists
-pub mod NameCuts
+pub mod QNames

@@ -1,6 +1,6 @@
 //! Diff documents: the one that change records make, what it makes of a replica, and its beginning.
 //! Promises upward one meaning for the crates that write diff documents and those that apply them
-//! (`aggregate_notice`, `apply_operation`, `Replays`); the laws between the two are in
+//! (`aggregate_notice`, `apply_operation`, `IsReplayOutcome`); the laws between the two are in
 //! `patch_laws`.
 //! The standards are RFC 5874 (xcap-diff), RFC 5261 (patch operations) and RFC 5875 (patching
 //! modes).
@@ -10,5 +10,5 @@
 
 mod diff_elements;
 
-pub use diff_elements::{element_of, empty_notice, push_plain};
+pub use diff_elements::{empty_notice, new_diff_element, push_plain_attr};
 pub use std::alloc::AllocError as NoMemory;

@@ -5,7 +5,7 @@ use Rattle.std.proofs.lemmas.Fmt.{IsAscii-decimal_wide}
 use Rattle.std.specs.Str.{IsAscii, chars}
 use Rattle.std.specs.Fmt.{decimal}
 use Rattle.xml_tree.specs.PathTexts.{steps_text, path_text}
-use Rattle.patch_rules.specs.Notices.{candidate}
+use Rattle.patch_rules.specs.Notices.{candidate_prefix}
 
 wide : (n : ℕ) → n < 2 ^ 64 → n < 10 ^ 64
 wide n lt = omega arith
@@ -17,10 +17,10 @@ letter_d : IsAscii (100 ∷ [])
 letter_d zero = lit< tt
 letter_d (suc i) = lit< tt
 
-pub numbered : (n : ℕ) → suc n < 2 ^ 64 → chars (100 ∷ decimal (suc n)) ≡ candidate (suc n)
+pub numbered : (n : ℕ) → suc n < 2 ^ 64 → chars (100 ∷ decimal (suc n)) ≡ candidate_prefix (suc n)
 numbered n lt = chars-IsAscii (100 ∷ decimal (suc n)) (IsAscii-append (100 ∷ []) (decimal (suc n)) letter_d (IsAscii-decimal_wide (suc n) (wide (suc n) lt)))
 
-pub lettered : (n : ℕ) (bytes text : List ℕ) → (n ≡ 0 → ⊥) → n < 2 ^ 64 → bytes ≡ 100 ∷ decimal n → text ≡ chars bytes → text ≡ candidate n
+pub lettered : (n : ℕ) (bytes text : List ℕ) → (n ≡ 0 → ⊥) → n < 2 ^ 64 → bytes ≡ 100 ∷ decimal n → text ≡ chars bytes → text ≡ candidate_prefix n
 lettered zero bytes text some lt is made = absurd (some refl)
 lettered (suc n) bytes text some lt is made = made ∙ ap chars is ∙ numbered n lt
 

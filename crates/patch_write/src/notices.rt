@@ -1,26 +1,28 @@
 //! Diff documents about whole documents (RFC 5874, section 3).
 ghost use Rattle.std.specs.Prelude.{◌≡◌, [], ◌∷◌, ◌++◌, IfOk, OnOk, chars, codes, decimal, false};
 ghost use Rattle.std.specs.Prelude.{encode_utf8_all};
-ghost use Rattle.doc_names.specs.Ids.{id_text};
+ghost use Rattle.doc_names.specs.DocIds.{id_text};
 ghost use Rattle.xml_tree.specs.Edits.{with_elem};
-ghost use Rattle.xml_names.specs.ExpandedNames.{name_of};
+ghost use Rattle.xml_names.specs.ExpandedNames.{name_from_parts};
 ghost use Rattle.xml_tree.specs.Print.{document_print};
 ghost use Rattle.xml_tree.specs.Tree.{last, tree_of};
 ghost use Rattle.edit_ops.specs.Notes.{tag_after};
-ghost use Rattle.edit_ops.specs.Operations.{operation, plain_attr, sel_attr};
+ghost use Rattle.edit_ops.specs.DiffOperations.{operation, plain_attr, sel_attr};
 ghost use Rattle.edit_ops.specs.RecordParts.{all_notes};
-ghost use Rattle.patch_rules.specs.Notices.{all_at_once, candidate, diff, document, gone_notice};
-ghost use Rattle.patch_rules.specs.Notices.{one_by_one, operations, prefix_for, removed_document};
-ghost use Rattle.patch_rules.specs.Notices.{tags_alone};
+ghost use Rattle.patch_rules.specs.Notices.{aggregate_documents, candidate_prefix, diff, document};
+ghost use Rattle.patch_rules.specs.Notices.{gone_notice};
+ghost use Rattle.patch_rules.specs.Notices.{patching_documents, operations, prefix_for};
+ghost use Rattle.patch_rules.specs.Notices.{removed_document};
+ghost use Rattle.patch_rules.specs.Notices.{tags_documents};
 ghost use Rattle.patch_write.specs.Modes.{notice_of};
-ghost use Rattle.patch_write.specs.inner.Modes.{documents_of, reported_notes};
-ghost use Rattle.patch_rules.specs.inner.Lists.{is_none, with_all};
+ghost use Rattle.patch_write.specs.inner.Modes.{mode_documents, reported_notes};
+ghost use Rattle.patch_rules.specs.inner.AppendedElements.{has_no_notes, with_elements};
 
 use crate::operations::operation;
 use crate::prefixes::prefix_for;
 use doc_names::{DocId, print_doc_id};
 use edit_ops::{EditNote, Notes};
-use patch_rules::{element_of, empty_notice, push_plain};
+use patch_rules::{empty_notice, new_diff_element, push_plain_attr};
 use std::alloc::{AllocError, Global};
 use tree_print::print_document;
 use xcap_io::Bytes;
@@ -55,7 +57,7 @@ fn push_operations(
     notes: &[EditNote],
 ) -> Result<(), AllocError>
     ensures ok { OnOk result
-        (document.new ≡ with_all (operations prefix.now notes.now) document.old) }
+        (document.new ≡ with_elements (operations prefix.now notes.now) document.old) }
 {
     for note in notes {
         document.push_elem(operation(alloc, prefix, note)?)?;
@@ -67,12 +69,12 @@ fn push_operations(
 #[tactic(auto, using(crate::proofs::Words::words))]
 fn document_element(alloc: Global, names: &Names) -> Result<Element, AllocError>
     ensures ok { IfOk result
-        (λ made. made ≡ tree_of (name_of names.now.prefix (codes "document")) []
+        (λ made. made ≡ tree_of (name_from_parts names.now.prefix (codes "document")) []
         (sel_attr names.now.sel ∷ []) (last [])) }
 {
     let sel = names.sel.copy(alloc)?;
-    let mut made = element_of(alloc, &names.prefix, "document")?;
-    push_plain(alloc, &mut made, "sel", sel)?;
+    let mut made = new_diff_element(alloc, &names.prefix, "document")?;
+    push_plain_attr(alloc, &mut made, "sel", sel)?;
     Ok(made)
 }
 
@@ -91,11 +93,11 @@ fn push_etag(alloc: Global, document: &mut Element, word: &str, tag: u64) -> Res
           attrs = document.old.attrs ++ plain_attr (chars word.now) (decimal tag) ∷ [];
         }) }
 {
-    push_plain(alloc, document, word, tag_text(alloc, tag)?)
+    push_plain_attr(alloc, document, word, tag_text(alloc, tag)?)
 }
 
 // Adds the etags after and before the changes.
-fn push_both(alloc: Global, document: &mut Element, from: u64, to: u64) -> Result<(), AllocError>
+fn push_etags(alloc: Global, document: &mut Element, from: u64, to: u64) -> Result<(), AllocError>
     ensures appended { OnOk result
         (document.new ≡ record document.old {
           attrs =
@@ -117,7 +119,7 @@ fn unpatched_document(
     ensures ok { IfOk result (λ made. made ≡ document names.now.prefix names.now.sel from to []) }
 {
     let mut made = document_element(alloc, names)?;
-    push_both(alloc, &mut made, from, to)?;
+    push_etags(alloc, &mut made, from, to)?;
     Ok(made)
 }
 
@@ -131,7 +133,7 @@ fn removal_element(alloc: Global, names: &Names, from: u64) -> Result<Element, A
 }
 
 // The `document` element with one operation.
-fn of_operation(
+fn document_with_operation(
     alloc: Global,
     names: &Names,
     from: u64,
@@ -147,17 +149,17 @@ fn of_operation(
 }
 
 // The `document` element of one change record.
-fn of_one(alloc: Global, names: &Names, note: &EditNote) -> Result<Element, AllocError>
+fn document_of_record(alloc: Global, names: &Names, note: &EditNote) -> Result<Element, AllocError>
     ensures ok { IfOk result
         (λ made. made ≡ document names.now.prefix names.now.sel note.now.previous note.now.next
         (operation names.now.prefix note.now ∷ [])) }
 {
     let element = operation(alloc, &names.prefix, note)?;
-    of_operation(alloc, names, note.previous(), note.next(), element)
+    document_with_operation(alloc, names, note.previous(), note.next(), element)
 }
 
 // The `document` element with the operations of all change records.
-fn of_all(
+fn document_of_records(
     alloc: Global,
     names: &Names,
     from: u64,
@@ -175,17 +177,18 @@ fn of_all(
 }
 
 // Adds a `document` element for each change record.
-fn push_each(
+fn push_record_documents(
     alloc: Global,
     notice: &mut Element,
     names: &Names,
     notes: &[EditNote],
 ) -> Result<(), AllocError>
     ensures ok { OnOk result
-        (notice.new ≡ with_all (one_by_one names.now.prefix names.now.sel notes.now) notice.old) }
+        (notice.new
+        ≡ with_elements (patching_documents names.now.prefix names.now.sel notes.now) notice.old) }
 {
     for note in notes {
-        notice.push_elem(of_one(alloc, names, note)?)?;
+        notice.push_elem(document_of_record(alloc, names, note)?)?;
     }
     Ok(())
 }
@@ -193,14 +196,14 @@ fn push_each(
 // ---- the whole diff document
 
 // Whether there are no change records.
-fn are_none(notes: Notes<'_>) -> bool
-    ensures exact { result ≡ is_none (all_notes notes.entry.older.now notes.entry.newer.now) }
+fn has_no_records(notes: Notes<'_>) -> bool
+    ensures exact { result ≡ has_no_notes (all_notes notes.entry.older.now notes.entry.newer.now) }
 {
     notes.older.is_empty() && notes.newer.is_empty()
 }
 
 // The tag after all change records.
-fn last_tag_in(from: u64, notes: Notes<'_>) -> u64
+fn last_tag_of_notes(from: u64, notes: Notes<'_>) -> u64
     ensures exact { result
         ≡ tag_after from (all_notes notes.entry.older.now notes.entry.newer.now) }
 {
@@ -208,58 +211,58 @@ fn last_tag_in(from: u64, notes: Notes<'_>) -> u64
 }
 
 // Adds the `document` element with etags alone.
-fn push_tags(
+fn push_tags_document(
     alloc: Global,
     notice: &mut Element,
     names: &Names,
     from: u64,
     notes: Notes<'_>,
 ) -> Result<(), AllocError>
-    requires { is_none (all_notes notes.older.now notes.newer.now) ≡ false }
+    requires { has_no_notes (all_notes notes.older.now notes.newer.now) ≡ false }
     ensures ok { OnOk result
-        (notice.new ≡ with_all
-        (tags_alone names.now.prefix names.now.sel from
+        (notice.new ≡ with_elements
+        (tags_documents names.now.prefix names.now.sel from
         (all_notes notes.entry.older.now notes.entry.newer.now)) notice.old) }
 {
-    let to = last_tag_in(from, notes);
+    let to = last_tag_of_notes(from, notes);
     let made = unpatched_document(alloc, names, from, to)?;
     notice.push_elem(made)?;
     Ok(())
 }
 
 // Adds a `document` element for each change record of both slices.
-fn push_each_in(
+fn push_patching_documents(
     alloc: Global,
     notice: &mut Element,
     names: &Names,
     notes: Notes<'_>,
 ) -> Result<(), AllocError>
     ensures ok { OnOk result
-        (notice.new ≡ with_all
-        (one_by_one names.now.prefix names.now.sel
+        (notice.new ≡ with_elements
+        (patching_documents names.now.prefix names.now.sel
         (all_notes notes.entry.older.now notes.entry.newer.now)) notice.old) }
 {
-    push_each(alloc, notice, names, notes.older)?;
-    push_each(alloc, notice, names, notes.newer)?;
+    push_record_documents(alloc, notice, names, notes.older)?;
+    push_record_documents(alloc, notice, names, notes.newer)?;
     Ok(())
 }
 
 // Adds the `document` element with all operations.
-fn push_all(
+fn push_aggregate_document(
     alloc: Global,
     notice: &mut Element,
     names: &Names,
     from: u64,
     notes: Notes<'_>,
 ) -> Result<(), AllocError>
-    requires { is_none (all_notes notes.older.now notes.newer.now) ≡ false }
+    requires { has_no_notes (all_notes notes.older.now notes.newer.now) ≡ false }
     ensures ok { OnOk result
-        (notice.new ≡ with_all
-        (all_at_once names.now.prefix names.now.sel from
+        (notice.new ≡ with_elements
+        (aggregate_documents names.now.prefix names.now.sel from
         (all_notes notes.entry.older.now notes.entry.newer.now)) notice.old) }
 {
-    let to = last_tag_in(from, notes);
-    let made = of_all(alloc, names, from, to, notes)?;
+    let to = last_tag_of_notes(from, notes);
+    let made = document_of_records(alloc, names, from, to, notes)?;
     notice.push_elem(made)?;
     Ok(())
 }
@@ -274,17 +277,17 @@ fn push_documents(
     notes: Notes<'_>,
 ) -> Result<(), AllocError>
     ensures ok { OnOk result
-        (notice.new ≡ with_all
-        (documents_of mode names.now.prefix names.now.sel from
+        (notice.new ≡ with_elements
+        (mode_documents mode names.now.prefix names.now.sel from
         (all_notes notes.entry.older.now notes.entry.newer.now)) notice.old) }
 {
-    if are_none(notes) {
+    if has_no_records(notes) {
         return Ok(());
     }
     match mode {
-        Mode::NoPatching => push_tags(alloc, notice, names, from, notes),
-        Mode::XcapPatching => push_each_in(alloc, notice, names, notes),
-        Mode::Aggregate => push_all(alloc, notice, names, from, notes),
+        Mode::NoPatching => push_tags_document(alloc, notice, names, from, notes),
+        Mode::XcapPatching => push_patching_documents(alloc, notice, names, notes),
+        Mode::Aggregate => push_aggregate_document(alloc, notice, names, from, notes),
     }
 }
 
@@ -325,8 +328,8 @@ fn notice_tree(
     notes: Notes<'_>,
 ) -> Result<Element, AllocError>
     ensures ok { IfOk result
-        (λ made. made ≡ with_all
-        (documents_of mode names.now.prefix names.now.sel from
+        (λ made. made ≡ with_elements
+        (mode_documents mode names.now.prefix names.now.sel from
         (all_notes notes.entry.older.now notes.entry.newer.now))
         (diff names.now.prefix root.now [])) }
 {
@@ -363,7 +366,7 @@ pub fn notice(
 // The names in a diff document without operations.
 #[tactic(auto, using(crate::proofs::Words::words))]
 fn plain_names(alloc: Global, doc: &DocId) -> Result<Names, AllocError>
-    ensures first_prefix { IfOk result (λ names. names.prefix ≡ candidate 0) }
+    ensures first_prefix { IfOk result (λ names. names.prefix ≡ candidate_prefix 0) }
     ensures prints_name { IfOk result (λ names. names.sel ≡ id_text doc.now) }
 {
     let prefix = Prefix::from(alloc, "d")?;
@@ -372,7 +375,7 @@ fn plain_names(alloc: Global, doc: &DocId) -> Result<Names, AllocError>
 }
 
 // Adds the `document` element of a document that was removed.
-fn push_removed(
+fn push_removed_document(
     alloc: Global,
     notice: &mut Element,
     names: &Names,
@@ -395,7 +398,7 @@ fn gone_tree(alloc: Global, names: &Names, root: &Root, from: u64) -> Result<Ele
         (removed_document names.now.prefix names.now.sel from ∷ [])) }
 {
     let mut notice = empty_notice(alloc, &names.prefix, root.text())?;
-    push_removed(alloc, &mut notice, names, from)?;
+    push_removed_document(alloc, &mut notice, names, from)?;
     Ok(notice)
 }
 

@@ -5,11 +5,13 @@ ghost use Rattle.xml_tree.specs.Edits.{with_elem};
 ghost use Rattle.xml_tree.specs.PathTexts.{path_text};
 ghost use Rattle.xml_names.specs.Markup.{print_name};
 ghost use Rattle.xml_tree.specs.Tree.{last};
-ghost use Rattle.edit_ops.specs.Operations.{attr_name_text, attr_path_text, gap_attrs, operation};
-ghost use Rattle.edit_ops.specs.Operations.{operation_of, plain_attr, sel_attr, change_operation};
+ghost use Rattle.edit_ops.specs.DiffOperations.{attr_name_text, attr_path_text, insertion_attrs};
+ghost use Rattle.edit_ops.specs.DiffOperations.{operation};
+ghost use Rattle.edit_ops.specs.DiffOperations.{operation_of, plain_attr, sel_attr};
+ghost use Rattle.edit_ops.specs.DiffOperations.{change_operation};
 
 use edit_ops::{Change, EditNote};
-use patch_rules::{element_of, push_plain};
+use patch_rules::{new_diff_element, push_plain_attr};
 use std::alloc::{AllocError, Global};
 use xml_names::{Decl, Name, Prefix, Text};
 use xml_tree::{Element, Path, copy_tree, print_path};
@@ -17,7 +19,7 @@ use xml_tree::{Element, Path, copy_tree, print_path};
 // ---- the selector of an operation
 
 // The selector of a child element.
-fn child_text(alloc: Global, parent: &Path, child: usize) -> Result<Text, AllocError>
+fn child_selector(alloc: Global, parent: &Path, child: usize) -> Result<Text, AllocError>
     ensures ok { IfOk result (λ text. text ≡ path_text (parent.now ++ child ∷ [])) }
 {
     let mut text = print_path(alloc, parent)?;
@@ -42,7 +44,7 @@ fn push_name(text: &mut Text, name: &Name) -> Result<(), AllocError>
 
 // The name of an attribute, after `@`.
 #[tactic(auto, using(crate::proofs::Words::words))]
-fn name_text(alloc: Global, name: &Name) -> Result<Text, AllocError>
+fn attribute_name_text(alloc: Global, name: &Name) -> Result<Text, AllocError>
     ensures ok { IfOk result (λ text. text ≡ attr_name_text name.now) }
 {
     let mut text = Text::from(alloc, "@")?;
@@ -52,7 +54,7 @@ fn name_text(alloc: Global, name: &Name) -> Result<Text, AllocError>
 
 // The selector of an element's attribute.
 #[tactic(auto, using(crate::proofs::Words::words))]
-fn attribute_text(alloc: Global, at: &Path, name: &Name) -> Result<Text, AllocError>
+fn attribute_selector(alloc: Global, at: &Path, name: &Name) -> Result<Text, AllocError>
     ensures ok { IfOk result (λ text. text ≡ attr_path_text at.now name.now) }
 {
     let mut text = print_path(alloc, at)?;
@@ -84,7 +86,7 @@ fn push_copy(alloc: Global, made: &mut Element, element: &Element) -> Result<(),
 }
 
 // The element of an operation, with the record's bindings as declarations.
-fn bare(
+fn bare_operation(
     alloc: Global,
     prefix: &Prefix,
     bindings: &[Decl],
@@ -93,7 +95,7 @@ fn bare(
     ensures declares_bindings { IfOk result
         (λ made. made ≡ operation_of prefix.now bindings.now (chars word.now) [] (last [])) }
 {
-    let mut made = element_of(alloc, prefix, word)?;
+    let mut made = new_diff_element(alloc, prefix, word)?;
     push_bindings(alloc, &mut made, bindings)?;
     Ok(made)
 }
@@ -111,8 +113,8 @@ fn operation_element(
         (λ made. made ≡ operation_of prefix.now bindings.now (chars word.now) (sel_attr sel ∷ [])
         (last [])) }
 {
-    let mut made = bare(alloc, prefix, bindings, word)?;
-    push_plain(alloc, &mut made, "sel", sel)?;
+    let mut made = bare_operation(alloc, prefix, bindings, word)?;
+    push_plain_attr(alloc, &mut made, "sel", sel)?;
     Ok(made)
 }
 
@@ -136,7 +138,7 @@ fn insertion(
 
 // An operation that adds something at a place, by a selector and the value of `pos`.
 #[tactic(auto, using(crate::proofs::Words::words))]
-fn placed_at(
+fn positioned_operation(
     alloc: Global,
     prefix: &Prefix,
     bindings: &[Decl],
@@ -149,7 +151,7 @@ fn placed_at(
 {
     let pos = Text::from(alloc, pos)?;
     let mut made = operation_element(alloc, prefix, bindings, "add", sel)?;
-    push_plain(alloc, &mut made, "pos", pos)?;
+    push_plain_attr(alloc, &mut made, "pos", pos)?;
     Ok(made)
 }
 
@@ -164,14 +166,14 @@ fn insertion_operation(
 ) -> Result<Element, AllocError>
     ensures ok { IfOk result
         (λ made. made ≡ operation_of prefix.now bindings.now (codes "add")
-        (gap_attrs parent.now gap) (last [])) }
+        (insertion_attrs parent.now gap) (last [])) }
 {
     if gap == 0 {
         let sel = print_path(alloc, parent)?;
-        return placed_at(alloc, prefix, bindings, sel, "prepend");
+        return positioned_operation(alloc, prefix, bindings, sel, "prepend");
     }
-    let sel = child_text(alloc, parent, gap - 1)?;
-    placed_at(alloc, prefix, bindings, sel, "after")
+    let sel = child_selector(alloc, parent, gap - 1)?;
+    positioned_operation(alloc, prefix, bindings, sel, "after")
 }
 
 // The replacement of an element.
@@ -222,14 +224,14 @@ fn attribute_operation(
         (λ made. made ≡ change_operation prefix.now bindings.now fresh
         (change.SetAttr at.now name.now value.now)) }
 {
-    let mut made = written_at(alloc, prefix, bindings, fresh, at, name)?;
+    let mut made = empty_attribute_operation(alloc, prefix, bindings, fresh, at, name)?;
     made.push_chars(value.as_str())?;
     Ok(made)
 }
 
 // The addition of an attribute, without its value.
 #[tactic(auto, using(crate::proofs::Words::words))]
-fn added_at(
+fn attribute_addition(
     alloc: Global,
     prefix: &Prefix,
     bindings: &[Decl],
@@ -241,15 +243,15 @@ fn added_at(
         (change.SetAttr at.now name.now [])) }
 {
     let sel = print_path(alloc, at)?;
-    let kind = name_text(alloc, name)?;
+    let kind = attribute_name_text(alloc, name)?;
     let mut made = operation_element(alloc, prefix, bindings, "add", sel)?;
-    push_plain(alloc, &mut made, "type", kind)?;
+    push_plain_attr(alloc, &mut made, "type", kind)?;
     Ok(made)
 }
 
 // The addition or replacement of an attribute, without its value.
 #[tactic(auto, using(crate::proofs::Words::words))]
-fn written_at(
+fn empty_attribute_operation(
     alloc: Global,
     prefix: &Prefix,
     bindings: &[Decl],
@@ -262,9 +264,9 @@ fn written_at(
         (change.SetAttr at.now name.now [])) }
 {
     if fresh {
-        return added_at(alloc, prefix, bindings, at, name);
+        return attribute_addition(alloc, prefix, bindings, at, name);
     }
-    let sel = attribute_text(alloc, at, name)?;
+    let sel = attribute_selector(alloc, at, name)?;
     operation_element(alloc, prefix, bindings, "replace", sel)
 }
 
@@ -281,7 +283,7 @@ fn attribute_removal(
         (λ made. made ≡ change_operation prefix.now bindings.now false
         (change.DropAttr at.now name.now)) }
 {
-    let sel = attribute_text(alloc, at, name)?;
+    let sel = attribute_selector(alloc, at, name)?;
     operation_element(alloc, prefix, bindings, "remove", sel)
 }
 
@@ -299,7 +301,7 @@ fn change_operation(
         made ≡ change_operation prefix.now bindings.now fresh change.now) }
 {
     match change {
-        Change::CreateDocument { .. } => bare(alloc, prefix, bindings, "remove"),
+        Change::CreateDocument { .. } => bare_operation(alloc, prefix, bindings, "remove"),
         Change::Insert {
             parent,
             gap,
@@ -311,7 +313,7 @@ fn change_operation(
             attribute_operation(alloc, prefix, bindings, fresh, at, name, value)
         }
         Change::DropAttr { at, name } => attribute_removal(alloc, prefix, bindings, at, name),
-        Change::RemoveDocument => bare(alloc, prefix, bindings, "remove"),
+        Change::RemoveDocument => bare_operation(alloc, prefix, bindings, "remove"),
     }
 }
 

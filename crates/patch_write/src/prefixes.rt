@@ -4,10 +4,11 @@ ghost use Rattle.std.specs.Prelude.{◌≡◌, ℕ, List, ◌++◌, IfOk, OnOk, 
 ghost use Rattle.edit_ops.specs.RecordParts.{all_notes};
 ghost use Rattle.std.specs.Set.{is_member};
 ghost use Rattle.std.specs.Str.{bytes_eq};
-ghost use Rattle.patch_rules.specs.Notices.{candidate, first_free, prefix_for};
-ghost use Rattle.patch_rules.specs.inner.DeclaredPrefixes.{prefixes, prefixes_in};
-ghost use Rattle.patch_write.specs.inner.DeclaredPrefixes.{Gains, Holds, prefixes_at, prefixes_put};
-ghost use Rattle.patch_write.specs.inner.DeclaredPrefixes.{prefixes_of_record};
+ghost use Rattle.patch_rules.specs.Notices.{candidate_prefix, first_free_candidate, prefix_for};
+ghost use Rattle.patch_rules.specs.inner.DeclaredPrefixes.{declared_prefixes, content_prefixes};
+ghost use Rattle.patch_write.specs.inner.DeclaredPrefixes.{GainsPrefixes, HasExactlyPrefixes};
+ghost use Rattle.patch_write.specs.inner.DeclaredPrefixes.{node_prefixes, inserted_prefixes};
+ghost use Rattle.patch_write.specs.inner.DeclaredPrefixes.{record_prefixes};
 
 use edit_ops::{Change, EditNote, Notes};
 use std::alloc::{AllocError, Global};
@@ -19,7 +20,8 @@ use xml_tree::{Element, Node};
 
 // Adds the prefixes of declarations.
 fn add_decls(alloc: Global, seen: &mut BTreeSet<Prefix>, decls: &[Decl]) -> Result<(), AllocError>
-    ensures gains_prefixes { OnOk result (Gains (prefixes decls.now) seen.old seen.new) }
+    ensures gains_prefixes { OnOk result
+        (GainsPrefixes (declared_prefixes decls.now) seen.old seen.new) }
 {
     for decl in decls {
         let _is_new = seen.insert(decl.prefix.copy(alloc)?)?;
@@ -35,7 +37,9 @@ fn add_element(
     element: &Element,
 ) -> Result<(), AllocError>
     ensures gains_prefixes { OnOk result
-        (Gains (prefixes element.now.decls ++ prefixes_in element.now.content) seen.old seen.new) }
+        (GainsPrefixes
+        (declared_prefixes element.now.decls ++ content_prefixes element.now.content) seen.old
+        seen.new) }
 {
     add_decls(alloc, seen, element.decls())?;
     let nodes = element.nodes();
@@ -48,7 +52,8 @@ fn add_element(
 // Adds the prefixes that a node declares.
 #[cycle(declared)]
 fn add_node(alloc: Global, seen: &mut BTreeSet<Prefix>, node: &Node) -> Result<(), AllocError>
-    ensures gains_prefixes { OnOk result (Gains (prefixes_at node.now) seen.old seen.new) }
+    ensures gains_prefixes { OnOk result
+        (GainsPrefixes (node_prefixes node.now) seen.old seen.new) }
 {
     match node {
         Node::Elem(element) => add_element(alloc, seen, element),
@@ -59,7 +64,8 @@ fn add_node(alloc: Global, seen: &mut BTreeSet<Prefix>, node: &Node) -> Result<(
 
 // Adds the prefixes that the inserted element of a change declares.
 fn add_change(alloc: Global, seen: &mut BTreeSet<Prefix>, change: &Change) -> Result<(), AllocError>
-    ensures gains_prefixes { OnOk result (Gains (prefixes_put change.now) seen.old seen.new) }
+    ensures gains_prefixes { OnOk result
+        (GainsPrefixes (inserted_prefixes change.now) seen.old seen.new) }
 {
     match change {
         Change::CreateDocument { .. } => Ok(()),
@@ -79,7 +85,7 @@ fn add_notes(
     notes: &[EditNote],
 ) -> Result<(), AllocError>
     ensures gains_prefixes { OnOk result
-        (Gains (flat_map prefixes_of_record notes.now) seen.old seen.new) }
+        (GainsPrefixes (flat_map record_prefixes notes.now) seen.old seen.new) }
 {
     for note in notes {
         add_decls(alloc, seen, note.bindings())?;
@@ -92,8 +98,8 @@ fn add_notes(
 
 // `d`, or `d` and a number from 1 on.
 #[tactic(auto, using(crate::proofs::Words::words))]
-fn candidate(alloc: Global, number: u64) -> Result<Prefix, AllocError>
-    ensures ok { IfOk result (λ prefix. prefix ≡ candidate number) }
+fn candidate_prefix(alloc: Global, number: u64) -> Result<Prefix, AllocError>
+    ensures ok { IfOk result (λ prefix. prefix ≡ candidate_prefix number) }
 {
     if number == 0 {
         return Prefix::from(alloc, "d");
@@ -104,13 +110,13 @@ fn candidate(alloc: Global, number: u64) -> Result<Prefix, AllocError>
 
 // The first candidate that isn't among these. More prefixes than `u64` has numbers don't fit into
 // memory.
-fn first_free(alloc: Global, seen: &BTreeSet<Prefix>) -> Result<Prefix, AllocError>
-    ensures first_unused { (ps : List (List ℕ)) → Holds ps seen.now
+fn first_free_candidate(alloc: Global, seen: &BTreeSet<Prefix>) -> Result<Prefix, AllocError>
+    ensures first_unused { (ps : List (List ℕ)) → HasExactlyPrefixes ps seen.now
         → IfOk result (λ prefix. prefix
-        ≡ candidate (first_free (is_member bytes_eq ps) (length ps) 0)) }
+        ≡ candidate_prefix (first_free_candidate (is_member bytes_eq ps) (length ps) 0)) }
 {
     for number in 0..u64::MAX {
-        let prefix = candidate(alloc, number)?;
+        let prefix = candidate_prefix(alloc, number)?;
         if !seen.contains(&prefix) {
             return Ok(prefix);
         }
@@ -126,5 +132,5 @@ pub(crate) fn prefix_for(alloc: Global, notes: Notes<'_>) -> Result<Prefix, Allo
     let mut seen = BTreeSet::new(alloc);
     add_notes(alloc, &mut seen, notes.older)?;
     add_notes(alloc, &mut seen, notes.newer)?;
-    first_free(alloc, &seen)
+    first_free_candidate(alloc, &seen)
 }

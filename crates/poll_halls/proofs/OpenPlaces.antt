@@ -8,13 +8,13 @@ use Rattle.halls.specs.declared.hall.Event.{Event}
 use Rattle.halls.specs.declared.hall.Event.TheVariants.{Knock, Ready, Late, Quiet, Over}
 use Rattle.halls.specs.declared.hall.Progress.{Progress}
 use Rattle.halls.specs.declared.hall.Progress.TheVariants.{Moved, Blocked}
-use Rattle.halls.specs.Calls.{after_close, after_listen, after_read, after_wait, after_write, begins, broken, closed, first_text, passed_in, passed_out, reported}
-use Rattle.halls.specs.HallState.{ConnectionState, HallState, begun_at, connection_at, new_hall, with_connection}
-use Rattle.halls.specs.Reports.{IsOpen, MayReport}
-use Rattle.poll_halls.specs.inner.Places.{IsHeld, IsKept, MayName, AreFree, id_at, number_at}
+use Rattle.halls.specs.StateChanges.{hall_after_close, hall_after_listen, hall_after_read, hall_after_wait, hall_after_write, with_next_connection, with_break, with_close, first_text, connection_after_read, connection_after_write, with_report}
+use Rattle.halls.specs.HallState.{ConnectionState, HallState, new_connection, connection_at, new_hall, with_connection}
+use Rattle.halls.specs.CallResults.{IsOpen, MayReport}
+use Rattle.poll_halls.specs.inner.ConnectionPlaces.{IsAtItsPlace, HoldsBetweenCalls, MayNameConnection, AreFreePlaces, id_at, number_at}
 
 abbrev none : ConnectionState
-none = begun_at 0 None
+none = new_connection 0 None
 
 -- what a change of one connection leaves of each
 left_by : {A : Type 0} (of : ConnectionState → A) (f : ConnectionState → ConnectionState) (xs : List ConnectionState) (n m : ℕ) → ((x : ConnectionState) → of (f x) ≡ of x)
@@ -54,7 +54,7 @@ open_before hall n f id leaves is = record {
 }
 
 -- after a change of one connection that leaves this
-kept_on : (numbers : List (Option ℕ)) (begun : ℕ) (hall : HallState) (n : ℕ) (f : ConnectionState → ConnectionState) → Leaves f → IsKept numbers begun hall → IsKept numbers begun (with_connection hall n f)
+kept_on : (numbers : List (Option ℕ)) (begun : ℕ) (hall : HallState) (n : ℕ) (f : ConnectionState → ConnectionState) → Leaves f → HoldsBetweenCalls numbers begun hall → HoldsBetweenCalls numbers begun (with_connection hall n f)
 kept_on numbers begun hall n f leaves kept = record {
   counted = kept.counted ∙ sym (length-set hall.connections n (f (connection_at hall n)));
   held = λ place number. (
@@ -66,7 +66,7 @@ kept_on numbers begun hall n f leaves kept = record {
 }
 
 -- after a call that changes no connection
-kept_by : (numbers : List (Option ℕ)) (begun : ℕ) (old new : HallState) → new.connections ≡ old.connections → new.to_come ≡ old.to_come → IsKept numbers begun old → IsKept numbers begun new
+kept_by : (numbers : List (Option ℕ)) (begun : ℕ) (old new : HallState) → new.connections ≡ old.connections → new.to_come ≡ old.to_come → HoldsBetweenCalls numbers begun old → HoldsBetweenCalls numbers begun new
 kept_by numbers begun old new same also kept =
     let open_new : (id : ConnectionId) → IsOpen old id → IsOpen new id = λ id is. record {
       begun = subst (λ (xs : List ConnectionState). id.number < length xs) (sym same) is.begun;
@@ -86,7 +86,7 @@ kept_by numbers begun old new same also kept =
     }
 
 -- a new hall with free places
-pub kept_new : (numbers : List (Option ℕ)) → AreFree numbers → IsKept numbers 0 new_hall
+pub kept_new : (numbers : List (Option ℕ)) → AreFreePlaces numbers → HoldsBetweenCalls numbers 0 new_hall
 kept_new numbers free = record {
   counted = refl;
   held = λ place number. (λ is. absurd (let e = sym (free place) ∙ is in let no : ⊥ = cc in no), λ is. absurd (let l = is.begun in let no : ⊥ = omega (arith, l) in no));
@@ -94,42 +94,42 @@ kept_new numbers free = record {
   hidden_to_come = refl;
 }
 
-pub kept_listen : {E : Type 0} (numbers : List (Option ℕ)) (begun : ℕ) (hall : HallState) (address : List ℕ) (result : Result (Unit {0}) E) → IsKept numbers begun hall → IsKept numbers begun (after_listen address result hall)
+pub kept_listen : {E : Type 0} (numbers : List (Option ℕ)) (begun : ℕ) (hall : HallState) (address : List ℕ) (result : Result (Unit {0}) E) → HoldsBetweenCalls numbers begun hall → HoldsBetweenCalls numbers begun (hall_after_listen address result hall)
 kept_listen numbers begun hall address (Ok x) kept = kept_by numbers begun hall (record hall { listening = Some address }) refl refl kept
 kept_listen numbers begun hall address (Err e) kept = kept_by numbers begun hall (record hall { faults = hall.faults + 1 }) refl refl kept
 
-pub kept_wait : {E : Type 0} (numbers : List (Option ℕ)) (begun : ℕ) (hall : HallState) (result : Result Event E) → IsKept numbers begun hall → IsKept numbers begun (after_wait result hall)
+pub kept_wait : {E : Type 0} (numbers : List (Option ℕ)) (begun : ℕ) (hall : HallState) (result : Result Event E) → HoldsBetweenCalls numbers begun hall → HoldsBetweenCalls numbers begun (hall_after_wait result hall)
 kept_wait numbers begun hall (Ok Knock) kept = kept_by numbers begun hall _ refl refl kept
-kept_wait numbers begun hall (Ok (Ready id)) kept = kept_on numbers begun (record hall { waits = hall.waits + 1 }) id.number reported (record { place = λ x. refl; closed = λ x. refl; hidden = λ x h. h }) (kept_by numbers begun hall _ refl refl kept)
-kept_wait numbers begun hall (Ok (Late id)) kept = kept_on numbers begun (record hall { waits = hall.waits + 1 }) id.number broken (record { place = λ x. refl; closed = λ x. refl; hidden = λ x h. h }) (kept_by numbers begun hall _ refl refl kept)
+kept_wait numbers begun hall (Ok (Ready id)) kept = kept_on numbers begun (record hall { waits = hall.waits + 1 }) id.number with_report (record { place = λ x. refl; closed = λ x. refl; hidden = λ x h. h }) (kept_by numbers begun hall _ refl refl kept)
+kept_wait numbers begun hall (Ok (Late id)) kept = kept_on numbers begun (record hall { waits = hall.waits + 1 }) id.number with_break (record { place = λ x. refl; closed = λ x. refl; hidden = λ x h. h }) (kept_by numbers begun hall _ refl refl kept)
 kept_wait numbers begun hall (Ok Quiet) kept = kept_by numbers begun hall _ refl refl kept
 kept_wait numbers begun hall (Ok Over) kept = kept_by numbers begun hall _ refl refl kept
 kept_wait numbers begun hall (Err e) kept = kept_by numbers begun hall _ refl refl kept
 
-passes_in : {E : Type 0} (buf : List ℕ) (result : Result Progress E) → Leaves (λ (x : ConnectionState). passed_in buf result (record x { reads = x.reads + 1 }))
+passes_in : {E : Type 0} (buf : List ℕ) (result : Result Progress E) → Leaves (λ (x : ConnectionState). connection_after_read buf result (record x { reads = x.reads + 1 }))
 passes_in buf (Ok (Moved count)) = record { place = λ x. refl; closed = λ x. refl; hidden = λ x h. ap (option_map (drop count)) h }
 passes_in buf (Ok Blocked) = record { place = λ x. refl; closed = λ x. refl; hidden = λ x h. h }
 passes_in buf (Err e) = record { place = λ x. refl; closed = λ x. refl; hidden = λ x h. h }
 
-pub kept_read : {E : Type 0} (numbers : List (Option ℕ)) (begun : ℕ) (hall : HallState) (n : ℕ) (buf : List ℕ) (result : Result Progress E) → IsKept numbers begun hall → IsKept numbers begun (after_read n buf result hall)
-kept_read numbers begun hall n buf result kept = kept_on numbers begun hall n (λ x. passed_in buf result (record x { reads = x.reads + 1 })) (passes_in buf result) kept
+pub kept_read : {E : Type 0} (numbers : List (Option ℕ)) (begun : ℕ) (hall : HallState) (n : ℕ) (buf : List ℕ) (result : Result Progress E) → HoldsBetweenCalls numbers begun hall → HoldsBetweenCalls numbers begun (hall_after_read n buf result hall)
+kept_read numbers begun hall n buf result kept = kept_on numbers begun hall n (λ x. connection_after_read buf result (record x { reads = x.reads + 1 })) (passes_in buf result) kept
 
-passes_out : {E : Type 0} (piece : List ℕ) (result : Result Progress E) → Leaves (λ (x : ConnectionState). passed_out piece result (record x { writes = x.writes + 1 }))
+passes_out : {E : Type 0} (piece : List ℕ) (result : Result Progress E) → Leaves (λ (x : ConnectionState). connection_after_write piece result (record x { writes = x.writes + 1 }))
 passes_out piece (Ok (Moved count)) = record { place = λ x. refl; closed = λ x. refl; hidden = λ x h. h }
 passes_out piece (Ok Blocked) = record { place = λ x. refl; closed = λ x. refl; hidden = λ x h. h }
 passes_out piece (Err e) = record { place = λ x. refl; closed = λ x. refl; hidden = λ x h. h }
 
-pub kept_write : {E : Type 0} (numbers : List (Option ℕ)) (begun : ℕ) (hall : HallState) (n : ℕ) (piece : List ℕ) (result : Result Progress E) → IsKept numbers begun hall → IsKept numbers begun (after_write n piece result hall)
-kept_write numbers begun hall n piece result kept = kept_on numbers begun hall n (λ x. passed_out piece result (record x { writes = x.writes + 1 })) (passes_out piece result) kept
+pub kept_write : {E : Type 0} (numbers : List (Option ℕ)) (begun : ℕ) (hall : HallState) (n : ℕ) (piece : List ℕ) (result : Result Progress E) → HoldsBetweenCalls numbers begun hall → HoldsBetweenCalls numbers begun (hall_after_write n piece result hall)
+kept_write numbers begun hall n piece result kept = kept_on numbers begun hall n (λ x. connection_after_write piece result (record x { writes = x.writes + 1 })) (passes_out piece result) kept
 
 -- a call of `accept` by which none begins
-pub kept_refused : (numbers : List (Option ℕ)) (begun faults : ℕ) (hall : HallState) → IsKept numbers begun hall → IsKept numbers begun (record hall { accepts = hall.accepts + 1; faults = faults })
+pub kept_refused : (numbers : List (Option ℕ)) (begun faults : ℕ) (hall : HallState) → HoldsBetweenCalls numbers begun hall → HoldsBetweenCalls numbers begun (record hall { accepts = hall.accepts + 1; faults = faults })
 kept_refused numbers begun faults hall kept = kept_by numbers begun hall _ refl refl kept
 
 -- the connection that begins is open, and so are those that were before
-open_begun : (place : ℕ) (hall : HallState) (id : ConnectionId) → IsOpen hall id → IsOpen (begins place hall) id
+open_begun : (place : ℕ) (hall : HallState) (id : ConnectionId) → IsOpen hall id → IsOpen (with_next_connection place hall) id
 open_begun place hall id is =
-    let next : ConnectionState = begun_at place (option_map first_text hall.to_come) in
+    let next : ConnectionState = new_connection place (option_map first_text hall.to_come) in
     let same = get_or_append_left hall.connections (next ∷ []) none id.number is.begun in
     record {
       begun = let one = length_push hall.connections next in omega (arith, one, is.begun);
@@ -137,9 +137,9 @@ open_begun place hall id is =
       not_closed = ap (λ (x : ConnectionState). x.closed) same ∙ is.not_closed;
     }
 
-open_next : (place number : ℕ) (hall : HallState) → number ≡ length hall.connections → IsOpen (begins place hall) (id_at place number)
+open_next : (place number : ℕ) (hall : HallState) → number ≡ length hall.connections → IsOpen (with_next_connection place hall) (id_at place number)
 open_next place number hall is =
-    let next : ConnectionState = begun_at place (option_map first_text hall.to_come) in
+    let next : ConnectionState = new_connection place (option_map first_text hall.to_come) in
     let same = get_or_push hall.connections next none number (sym is) in
     record {
       begun = let one = length_push hall.connections next in omega (arith, one, is);
@@ -147,9 +147,9 @@ open_next place number hall is =
       not_closed = ap (λ (x : ConnectionState). x.closed) same;
     }
 
-open_earlier : (place : ℕ) (hall : HallState) (id : ConnectionId) → id.number < length hall.connections → IsOpen (begins place hall) id → IsOpen hall id
+open_earlier : (place : ℕ) (hall : HallState) (id : ConnectionId) → id.number < length hall.connections → IsOpen (with_next_connection place hall) id → IsOpen hall id
 open_earlier place hall id below is =
-    let next : ConnectionState = begun_at place (option_map first_text hall.to_come) in
+    let next : ConnectionState = new_connection place (option_map first_text hall.to_come) in
     let same = get_or_append_left hall.connections (next ∷ []) none id.number below in
     record {
       begun = below;
@@ -164,25 +164,25 @@ hidden_push (x ∷ xs) next zero last all = all 0
 hidden_push (x ∷ xs) next (suc m) last all = hidden_push xs next m last (λ (k : ℕ). all (suc k))
 
 -- the places after a connection began at a free one
-module _ (numbers : List (Option ℕ)) (begun place : ℕ) (hall : HallState) (kept : IsKept numbers begun hall) (inside : place < length numbers) (free : number_at numbers place ≡ None) where
+module _ (numbers : List (Option ℕ)) (begun place : ℕ) (hall : HallState) (kept : HoldsBetweenCalls numbers begun hall) (inside : place < length numbers) (free : number_at numbers place ≡ None) where
   abbrev after : List (Option ℕ)
   after = slice_set numbers place (Some begun)
 
-  open_now : (k m : ℕ) → number_at after k ≡ Some m → IsOpen (begins place hall) (id_at k m)
+  open_now : (k m : ℕ) → number_at after k ≡ Some m → IsOpen (with_next_connection place hall) (id_at k m)
   open_now k m is = elim (cases_eq k place) [
     | inl same ↦
         let first : Some begun ≡ Some m = sym (get_or-set_same numbers place (Some begun) None inside) ∙ ap (number_at after) (sym same) ∙ is in
         let number : begun ≡ m = cc in
-        subst (λ (p : ℕ). IsOpen (begins place hall) (id_at p m)) (sym same) (open_next place m hall (sym number ∙ kept.counted))
+        subst (λ (p : ℕ). IsOpen (with_next_connection place hall) (id_at p m)) (sym same) (open_next place m hall (sym number ∙ kept.counted))
     | inr other ↦ open_begun place hall (id_at k m) ((kept.held k m).0 (sym (get_or-set_other numbers place k (Some begun) None other) ∙ is))
   ]
 
-  held_now : (k m : ℕ) → IsOpen (begins place hall) (id_at k m) → number_at after k ≡ Some m
+  held_now : (k m : ℕ) → IsOpen (with_next_connection place hall) (id_at k m) → number_at after k ≡ Some m
   held_now k m is =
-      let one = length_push hall.connections (begun_at place (option_map first_text hall.to_come)) in
+      let one = length_push hall.connections (new_connection place (option_map first_text hall.to_come)) in
       elim (cases_eq m begun) [
         | inl last ↦
-            let same = get_or_push hall.connections (begun_at place (option_map first_text hall.to_come)) none m (sym (last ∙ kept.counted)) in
+            let same = get_or_push hall.connections (new_connection place (option_map first_text hall.to_come)) none m (sym (last ∙ kept.counted)) in
             let at : place ≡ k = sym (ap (λ (x : ConnectionState). x.place) same) ∙ is.at_place in
             subst (λ (p : ℕ). number_at after p ≡ Some m) at (get_or-set_same numbers place (Some begun) None inside ∙ ap Some (sym last))
         | inr earlier ↦
@@ -194,58 +194,58 @@ module _ (numbers : List (Option ℕ)) (begun place : ℕ) (hall : HallState) (k
             get_or-set_other numbers place k (Some begun) None other ∙ was
       ]
 
-  open_as : (accepts k m : ℕ) → IsOpen (begins place hall) (id_at k m) → IsOpen (begins place (record hall { accepts = accepts })) (id_at k m)
+  open_as : (accepts k m : ℕ) → IsOpen (with_next_connection place hall) (id_at k m) → IsOpen (with_next_connection place (record hall { accepts = accepts })) (id_at k m)
   open_as accepts k m is = record { begun = is.begun; at_place = is.at_place; not_closed = is.not_closed }
 
-  open_of : (accepts k m : ℕ) → IsOpen (begins place (record hall { accepts = accepts })) (id_at k m) → IsOpen (begins place hall) (id_at k m)
+  open_of : (accepts k m : ℕ) → IsOpen (with_next_connection place (record hall { accepts = accepts })) (id_at k m) → IsOpen (with_next_connection place hall) (id_at k m)
   open_of accepts k m is = record { begun = is.begun; at_place = is.at_place; not_closed = is.not_closed }
 
-  pub kept_begun : (accepts : ℕ) → IsKept after (begun + 1) (begins place (record hall { accepts = accepts }))
+  pub kept_begun : (accepts : ℕ) → HoldsBetweenCalls after (begun + 1) (with_next_connection place (record hall { accepts = accepts }))
   kept_begun accepts = record {
-    counted = ap (λ (n : ℕ). n + 1) kept.counted ∙ sym (length_push hall.connections (begun_at place (option_map first_text hall.to_come)));
+    counted = ap (λ (n : ℕ). n + 1) kept.counted ∙ sym (length_push hall.connections (new_connection place (option_map first_text hall.to_come)));
     held = λ k m. (λ is. open_as accepts k m (open_now k m is), λ is. held_now k m (open_of accepts k m is));
-    hidden = λ m. hidden_push hall.connections (begun_at place (option_map first_text hall.to_come)) m (ap (option_map first_text) kept.hidden_to_come) kept.hidden;
+    hidden = λ m. hidden_push hall.connections (new_connection place (option_map first_text hall.to_come)) m (ap (option_map first_text) kept.hidden_to_come) kept.hidden;
     hidden_to_come = ap (option_map (drop 1)) kept.hidden_to_come;
   }
 
 -- the place is free after its connection was closed
-closed_is : (hall : HallState) (n m : ℕ) → m < length hall.connections → m ≡ n → (connection_at (after_close n hall) m).closed ≡ true
-closed_is hall n m below same = subst (λ (k : ℕ). (connection_at (after_close n hall) k).closed ≡ true) (sym same)
-    (ap (λ (x : ConnectionState). x.closed) (get_or-set_same hall.connections n (closed (connection_at hall n)) none (subst (λ (k : ℕ). k < length hall.connections) same below)))
+closed_is : (hall : HallState) (n m : ℕ) → m < length hall.connections → m ≡ n → (connection_at (hall_after_close n hall) m).closed ≡ true
+closed_is hall n m below same = subst (λ (k : ℕ). (connection_at (hall_after_close n hall) k).closed ≡ true) (sym same)
+    (ap (λ (x : ConnectionState). x.closed) (get_or-set_same hall.connections n (with_close (connection_at hall n)) none (subst (λ (k : ℕ). k < length hall.connections) same below)))
 
-open_others : (hall : HallState) (n : ℕ) (id : ConnectionId) → id.number ≢ n → IsOpen hall id → IsOpen (after_close n hall) id
+open_others : (hall : HallState) (n : ℕ) (id : ConnectionId) → id.number ≢ n → IsOpen hall id → IsOpen (hall_after_close n hall) id
 open_others hall n id other is =
-    let same = get_or-set_other hall.connections n id.number (closed (connection_at hall n)) none other in
+    let same = get_or-set_other hall.connections n id.number (with_close (connection_at hall n)) none other in
     record {
-      begun = let count = length-set hall.connections n (closed (connection_at hall n)) in omega (arith, count, is.begun);
+      begun = let count = length-set hall.connections n (with_close (connection_at hall n)) in omega (arith, count, is.begun);
       at_place = ap (λ (x : ConnectionState). x.place) same ∙ is.at_place;
       not_closed = ap (λ (x : ConnectionState). x.closed) same ∙ is.not_closed;
     }
 
-open_still : (hall : HallState) (n : ℕ) (id : ConnectionId) → id.number ≢ n → IsOpen (after_close n hall) id → IsOpen hall id
+open_still : (hall : HallState) (n : ℕ) (id : ConnectionId) → id.number ≢ n → IsOpen (hall_after_close n hall) id → IsOpen hall id
 open_still hall n id other is =
-    let same = get_or-set_other hall.connections n id.number (closed (connection_at hall n)) none other in
+    let same = get_or-set_other hall.connections n id.number (with_close (connection_at hall n)) none other in
     record {
-      begun = let count = length-set hall.connections n (closed (connection_at hall n)) in omega (arith, count, is.begun);
+      begun = let count = length-set hall.connections n (with_close (connection_at hall n)) in omega (arith, count, is.begun);
       at_place = sym (ap (λ (x : ConnectionState). x.place) same) ∙ is.at_place;
       not_closed = sym (ap (λ (x : ConnectionState). x.closed) same) ∙ is.not_closed;
     }
 
 -- the place of an open connection is one of the places
-pub place_inside : (numbers : List (Option ℕ)) (id : ConnectionId) → IsHeld numbers id → id.place < length numbers
+pub place_inside : (numbers : List (Option ℕ)) (id : ConnectionId) → IsAtItsPlace numbers id → id.place < length numbers
 place_inside numbers id is = elim (cases_lt id.place (length numbers)) [
   | inl below ↦ below
   | inr beyond ↦ absurd (let e = sym (get_or_past numbers id.place None beyond) ∙ is in let no : ⊥ = cc in no)
 ]
 
-module _ (numbers : List (Option ℕ)) (begun : ℕ) (hall : HallState) (id : ConnectionId) (kept : IsKept numbers begun hall) (open_id : IsOpen hall id) where
+module _ (numbers : List (Option ℕ)) (begun : ℕ) (hall : HallState) (id : ConnectionId) (kept : HoldsBetweenCalls numbers begun hall) (open_id : IsOpen hall id) where
   abbrev freed : List (Option ℕ)
   freed = slice_set numbers id.place None
 
-  pub held_id : IsHeld numbers id
+  pub held_id : IsAtItsPlace numbers id
   held_id = (kept.held id.place id.number).1 open_id
 
-  open_freed : (k m : ℕ) → number_at freed k ≡ Some m → IsOpen (after_close id.number hall) (id_at k m)
+  open_freed : (k m : ℕ) → number_at freed k ≡ Some m → IsOpen (hall_after_close id.number hall) (id_at k m)
   open_freed k m is = elim (cases_eq k id.place) [
     | inl same ↦ absurd (
         let e = sym (get_or-set_same numbers id.place None None (place_inside numbers id held_id)) ∙ ap (number_at freed) (sym same) ∙ is in
@@ -255,10 +255,10 @@ module _ (numbers : List (Option ℕ)) (begun : ℕ) (hall : HallState) (id : Co
         open_others hall id.number (id_at k m) (λ same. other (sym was.at_place ∙ ap (λ (n : ℕ). (connection_at hall n).place) same ∙ open_id.at_place)) was
   ]
 
-  held_freed : (k m : ℕ) → IsOpen (after_close id.number hall) (id_at k m) → number_at freed k ≡ Some m
+  held_freed : (k m : ℕ) → IsOpen (hall_after_close id.number hall) (id_at k m) → number_at freed k ≡ Some m
   held_freed k m is =
       let differs : m ≢ id.number = λ same.
-      let below : m < length hall.connections = (let count = length-set hall.connections id.number (closed (connection_at hall id.number)) in omega (arith, count, is.begun)) in
+      let below : m < length hall.connections = (let count = length-set hall.connections id.number (with_close (connection_at hall id.number)) in omega (arith, count, is.begun)) in
       let e = sym (closed_is hall id.number m below same) ∙ is.not_closed in
       let no : ⊥ = cc in no
       in
@@ -270,16 +270,16 @@ module _ (numbers : List (Option ℕ)) (begun : ℕ) (hall : HallState) (id : Co
       in
       get_or-set_other numbers id.place k None None other ∙ was
 
-  pub kept_closed : IsKept freed begun (after_close id.number hall)
+  pub kept_closed : HoldsBetweenCalls freed begun (hall_after_close id.number hall)
   kept_closed = record {
-    counted = kept.counted ∙ sym (length-set hall.connections id.number (closed (connection_at hall id.number)));
+    counted = kept.counted ∙ sym (length-set hall.connections id.number (with_close (connection_at hall id.number)));
     held = λ k m. (open_freed k m, held_freed k m);
-    hidden = λ m. hidden_by closed hall.connections id.number m (λ x h. h) kept.hidden;
+    hidden = λ m. hidden_by with_close hall.connections id.number m (λ x h. h) kept.hidden;
     hidden_to_come = kept.hidden_to_come;
   }
 
 -- what an event may name, as a hall may report it
-pub may_report : {E : Type 0} (numbers : List (Option ℕ)) (begun : ℕ) (hall : HallState) (takes_more : Bool) (result : Result Event E) → IsKept numbers begun hall → MayName numbers takes_more result → MayReport hall takes_more result
+pub may_report : {E : Type 0} (numbers : List (Option ℕ)) (begun : ℕ) (hall : HallState) (takes_more : Bool) (result : Result Event E) → HoldsBetweenCalls numbers begun hall → MayNameConnection numbers takes_more result → MayReport hall takes_more result
 may_report numbers begun hall takes_more (Ok Knock) kept named = named
 may_report numbers begun hall takes_more (Ok (Ready id)) kept named = (kept.held id.place id.number).0 named
 may_report numbers begun hall takes_more (Ok (Late id)) kept named = (kept.held id.place id.number).0 named

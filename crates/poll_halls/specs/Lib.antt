@@ -1,2 +1,2 @@
-pub mod Streams
+pub mod SlotStreams
 pub mod inner

@@ -1,3 +1,3 @@
 -- Definitions for private functions and proofs. No clause of a public call needs them.
-pub mod Places
-pub mod Progress
+pub mod ConnectionPlaces
+pub mod NoProgress

@@ -70,7 +70,7 @@ fn readiness(event: &Event) -> Readiness {
 }
 
 // Notes what the events say, as far as there is room.
-fn note_all(found: &mut Vec<Readiness>, events: &Events) {
+fn record_events(found: &mut Vec<Readiness>, events: &Events) {
     found.clear();
     for event in events.iter() {
         if found.push(readiness(event)).is_err() {
@@ -108,7 +108,7 @@ impl<N: Net + Clock + Drop> Sockets for MioSockets<N> {
     fn poll(&mut self, longest: Duration) -> Result<(), Failed> {
         match self.poll.poll(&mut self.events, Some(longest)) {
             Ok(()) => {
-                note_all(&mut self.found, &self.events);
+                record_events(&mut self.found, &self.events);
                 Ok(())
             }
             Err(_) => Err(Failed),

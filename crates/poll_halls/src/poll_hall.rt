@@ -1,14 +1,15 @@
 // Many connections over sockets, by polling.
 ghost use Rattle.std.specs.Prelude.{◌≡◌, ◌-◌, ◌^◌, ◌<◌, None, length, slice_index_or, IfOk};
 ghost use Rattle.std.specs.Prelude.{IfSome, IsTrue, slice_set};
-ghost use Rattle.halls.specs.Calls.{after_accept, after_read, after_write};
+ghost use Rattle.halls.specs.StateChanges.{hall_after_accept, hall_after_read, hall_after_write};
 ghost use Rattle.halls.specs.HallState.{connection_at, new_hall};
-ghost use Rattle.halls.specs.Reports.{IsOpen, MayRead, MayWrite, NamesNext};
-ghost use Rattle.poll_halls.specs.inner.Places.{AreFree, IsHeld, IsKept, MayName};
-ghost use Rattle.poll_halls.specs.Streams.{ReadsSlot, WritesSlot};
+ghost use Rattle.halls.specs.CallResults.{IsOpen, MayRead, MayWrite, MayAccept};
+ghost use Rattle.poll_halls.specs.inner.ConnectionPlaces.{AreFreePlaces, IsAtItsPlace};
+ghost use Rattle.poll_halls.specs.inner.ConnectionPlaces.{HoldsBetweenCalls, MayNameConnection};
+ghost use Rattle.poll_halls.specs.SlotStreams.{ReadsSlot, WritesSlot};
 
 pub use crate::slot::TimeLimits;
-use crate::slot::{Slot, Times, Waits, defer_at, note_at, read_at, rest_at, write_at};
+use crate::slot::{Slot, Times, Waits, defer_at, read_at, record_readiness_at, rest_at, write_at};
 use crate::sockets::{Readiness, Sockets};
 use halls::{Call, ConnectionId, Event, Hall, HallLog, Progress};
 use std::alloc::{AllocError, Global};
@@ -40,12 +41,12 @@ pub struct PollHall<E: Sockets + Drop> {
     polled: bool,
     begun: u64,
     log: HallLog,
-    ghost kept: { IsKept numbers.items begun log.state },
+    ghost kept: { HoldsBetweenCalls numbers.items begun log.state },
 }
 
 // Places, all of which are free.
 fn free_places<T: Drop>(alloc: Global, places: usize) -> Result<Vec<Option<T>>, AllocError>
-    ensures all_free { IfOk result (λ made. AreFree made.items) }
+    ensures all_free { IfOk result (λ made. AreFreePlaces made.items) }
 {
     let mut made = Vec::with_capacity(alloc, places)?;
     for _ in 0..places {
@@ -69,7 +70,7 @@ fn find_ready<S: Drop>(
     slots: &[Option<Slot<S>>],
     from: usize,
 ) -> Option<ConnectionId>
-    ensures held { IfSome result (λ id. IsHeld numbers.now id) }
+    ensures held { IfSome result (λ id. IsAtItsPlace numbers.now id) }
 {
     for place in from..numbers.len().min(slots.len()) {
         if let (Some(number), Some(slot)) = (numbers[place], &slots[place]) {
@@ -87,7 +88,7 @@ fn find_late<S: Drop>(
     slots: &[Option<Slot<S>>],
     times: &Times,
 ) -> Option<ConnectionId>
-    ensures held { IfSome result (λ id. IsHeld numbers.now id) }
+    ensures held { IfSome result (λ id. IsAtItsPlace numbers.now id) }
 {
     for place in 0..numbers.len().min(slots.len()) {
         if let (Some(number), Some(slot)) = (numbers[place], &slots[place]) {
@@ -101,7 +102,7 @@ fn find_late<S: Drop>(
 
 // The first connection at rest.
 fn find_resting<S: Drop>(numbers: &[Option<u64>], slots: &[Option<Slot<S>>]) -> Option<ConnectionId>
-    ensures held { IfSome result (λ id. IsHeld numbers.now id) }
+    ensures held { IfSome result (λ id. IsAtItsPlace numbers.now id) }
 {
     for place in 0..numbers.len().min(slots.len()) {
         if let (Some(number), Some(slot)) = (numbers[place], &slots[place]) {
@@ -121,11 +122,11 @@ fn end_deferrals<S: Drop>(slots: &mut Vec<Option<Slot<S>>>) {
 }
 
 // Notes what was found. Returns whether a connection may be there to be accepted.
-fn note_all<S: Drop>(slots: &mut Vec<Option<Slot<S>>>, all_found: &[Readiness]) -> bool {
+fn record_all<S: Drop>(slots: &mut Vec<Option<Slot<S>>>, all_found: &[Readiness]) -> bool {
     let mut knocks = false;
     for found in all_found {
         match found.place {
-            Some(place) => note_at(slots, place, found),
+            Some(place) => record_readiness_at(slots, place, found),
             None => knocks = true,
         }
     }
@@ -196,7 +197,7 @@ impl<E: Sockets + Drop> PollHall<E> {
         self.sockets.poll(longest)?;
         self.times.now = self.sockets.now();
         end_deferrals(&mut self.slots);
-        if note_all(&mut self.slots, self.sockets.found()) {
+        if record_all(&mut self.slots, self.sockets.found()) {
             self.knocks = true;
         }
         Ok(())
@@ -204,7 +205,7 @@ impl<E: Sockets + Drop> PollHall<E> {
 
     // A connection whose time is up: also one at rest, where another comes and no more are taken.
     fn next_late(&self, takes_more: bool) -> Option<ConnectionId>
-        ensures held { IfSome result (λ id. IsHeld self.now.numbers.items id) }
+        ensures held { IfSome result (λ id. IsAtItsPlace self.now.numbers.items id) }
     {
         if self.knocks && !takes_more {
             if let Some(id) = find_resting(&self.numbers, &self.slots) {
@@ -216,7 +217,7 @@ impl<E: Sockets + Drop> PollHall<E> {
 
     // The next event.
     fn next_event(&mut self, takes_more: bool) -> Result<Event, Failed>
-        ensures held { MayName self.old.numbers.items takes_more result }
+        ensures held { MayNameConnection self.old.numbers.items takes_more result }
         ensures same_numbers { self.new.numbers.items ≡ self.old.numbers.items }
         ensures same_log { self.new.log.state ≡ self.old.log.state }
         ensures same_count { self.new.begun ≡ self.old.begun }
@@ -277,8 +278,8 @@ impl<E: Sockets + Drop> PollHall<E> {
         requires slot_there { place < length self.old.slots.items }
         requires free { slice_index_or self.old.numbers.items place None ≡ None }
         requires may_count { self.old.begun < 2 ^ 64 - 1 }
-        ensures begins { self.new.log.state ≡ after_accept place result self.old.log.state }
-        ensures named { NamesNext place self.old.log.state result }
+        ensures begins { self.new.log.state ≡ hall_after_accept place result self.old.log.state }
+        ensures named { MayAccept place self.old.log.state result }
     {
         match self.next_stream(place) {
             Ok(Some(stream)) => {
@@ -287,15 +288,15 @@ impl<E: Sockets + Drop> PollHall<E> {
                 self.slots[place] = Some(Slot::new(stream, &self.times));
                 self.numbers[place] = Some(number);
                 self.begun += 1;
-                self.log = self.log.then(&Call::Accept(place, Ok(Some(id))));
+                self.log = self.log.with_call(&Call::Accept(place, Ok(Some(id))));
                 Ok(Some(id))
             }
             Ok(None) => {
-                self.log = self.log.then(&Call::Accept(place, Ok(None)));
+                self.log = self.log.with_call(&Call::Accept(place, Ok(None)));
                 Ok(None)
             }
             Err(Failed) => {
-                self.log = self.log.then(&Call::Accept(place, Err(Failed)));
+                self.log = self.log.with_call(&Call::Accept(place, Err(Failed)));
                 Err(Failed)
             }
         }
@@ -307,13 +308,15 @@ impl<E: Sockets + Drop> Hall for PollHall<E> {
 
     fn listen(&mut self, address: &str) -> Result<(), Failed> {
         let result = self.sockets.listen(address);
-        self.log = self.log.then(&Call::Listen(address.as_bytes(), result));
+        self.log = self
+            .log
+            .with_call(&Call::Listen(address.as_bytes(), result));
         result
     }
 
     fn wait(&mut self, takes_more: bool) -> Result<Event, Failed> {
         let result = self.next_event(takes_more);
-        self.log = self.log.then(&Call::Wait(result));
+        self.log = self.log.with_call(&Call::Wait(result));
         result
     }
 
@@ -321,7 +324,7 @@ impl<E: Sockets + Drop> Hall for PollHall<E> {
         if self.is_free(place) {
             return self.accept_at(place);
         }
-        self.log = self.log.then(&Call::Accept(place, Ok(None)));
+        self.log = self.log.with_call(&Call::Accept(place, Ok(None)));
         Ok(None)
     }
 
@@ -332,13 +335,13 @@ impl<E: Sockets + Drop> Hall for PollHall<E> {
             (connection_at (⟦<PollHall<E> as Hall>⟧.state self.old) id.number).left
             buf.new result }
         ensures only_reads { ⟦<PollHall<E> as Hall>⟧.state self.new
-            ≡ after_read id.number buf.new result (⟦<PollHall<E> as Hall>⟧.state self.old) }
+            ≡ hall_after_read id.number buf.new result (⟦<PollHall<E> as Hall>⟧.state self.old) }
         ensures from_stream { ReadsSlot E.Stream.remaining
             (slice_index_or self.old.slots.items id.place None)
             (slice_index_or self.new.slots.items id.place None) result buf.new }
     {
         let result = read_at(&mut self.slots, id.place, buf, &self.times);
-        self.log = self.log.then(&Call::Read(id, buf, result));
+        self.log = self.log.with_call(&Call::Read(id, buf, result));
         result
     }
 
@@ -347,13 +350,13 @@ impl<E: Sockets + Drop> Hall for PollHall<E> {
         requires some_bytes { 0 < length piece.now }
         ensures within_piece { MayWrite piece.now result }
         ensures only_writes { ⟦<PollHall<E> as Hall>⟧.state self.new
-            ≡ after_write id.number piece.now result (⟦<PollHall<E> as Hall>⟧.state self.old) }
+            ≡ hall_after_write id.number piece.now result (⟦<PollHall<E> as Hall>⟧.state self.old) }
         ensures to_stream { WritesSlot E.Stream.contents
             (slice_index_or self.old.slots.items id.place None)
             (slice_index_or self.new.slots.items id.place None) result piece.now }
     {
         let result = write_at(&mut self.slots, id.place, piece, &self.times);
-        self.log = self.log.then(&Call::Write(id, piece, result));
+        self.log = self.log.with_call(&Call::Write(id, piece, result));
         result
     }
 
@@ -362,7 +365,7 @@ impl<E: Sockets + Drop> Hall for PollHall<E> {
         free_place(&mut self.numbers, id.place);
         // A descriptor is free now, so what comes can be accepted.
         self.knocks = true;
-        self.log = self.log.then(&Call::Close(id));
+        self.log = self.log.with_call(&Call::Close(id));
     }
 
     fn defer(&mut self, id: ConnectionId) {

@@ -1,8 +1,9 @@
 // The sockets of a hall, each at its place, and how long their connections may be silent.
 ghost use Rattle.std.specs.Prelude.{◌≡◌, ◌<◌, None, length, slice_index_or};
-ghost use Rattle.halls.specs.Reports.{MayRead, MayWrite};
-ghost use Rattle.poll_halls.specs.Streams.{ComesFrom, GoesTo, ReadsSlot, WritesSlot};
-ghost use Rattle.poll_halls.specs.inner.Progress.{MovesNothing};
+ghost use Rattle.halls.specs.CallResults.{MayRead, MayWrite};
+ghost use Rattle.poll_halls.specs.SlotStreams.{ReadsFromStream, WritesToStream, ReadsSlot};
+ghost use Rattle.poll_halls.specs.SlotStreams.{WritesSlot};
+ghost use Rattle.poll_halls.specs.inner.NoProgress.{MovesNothing};
 
 use crate::sockets::Readiness;
 use halls::Progress;
@@ -30,7 +31,7 @@ pub struct Times {
 
 impl Times {
     // The moment after this time.
-    fn after(&self, time: Duration) -> Option<Instant> {
+    fn deadline_after(&self, time: Duration) -> Option<Instant> {
         self.now?.checked_add(time)
     }
 
@@ -73,25 +74,25 @@ impl<S: Drop> Slot<S> {
             waits: Waits::Nothing,
             is_deferred: false,
             is_resting: false,
-            silent_until: times.after(times.limits.silence),
-            served_until: times.after(times.limits.service),
+            silent_until: times.deadline_after(times.limits.silence),
+            served_until: times.deadline_after(times.limits.service),
         }
     }
 
     // Notes that bytes passed.
-    fn note_progress(&mut self, times: &Times)
+    fn record_progress(&mut self, times: &Times)
         ensures same_stream { self.new.stream ≡ self.old.stream }
     {
         if self.is_resting {
             self.is_resting = false;
-            self.served_until = times.after(times.limits.service);
+            self.served_until = times.deadline_after(times.limits.service);
         }
         self.waits = Waits::Nothing;
-        self.silent_until = times.after(times.limits.silence);
+        self.silent_until = times.deadline_after(times.limits.silence);
     }
 
     // Notes what a call that moved nothing waits for. An interrupted one waits for nothing.
-    fn note_fault(&mut self, kind: ErrorKind, waits: Waits) -> Result<Progress, Failed>
+    fn record_fault(&mut self, kind: ErrorKind, waits: Waits) -> Result<Progress, Failed>
         ensures nothing_moved { MovesNothing result }
         ensures same_stream { self.new.stream ≡ self.old.stream }
     {
@@ -110,15 +111,15 @@ impl<S: Drop> Slot<S> {
         S: Read,
         requires { 0 < length buf.old }
         ensures within_buffer { MayRead None buf.new result }
-        ensures from_stream { ComesFrom S.remaining self.old.stream self.new.stream result
+        ensures from_stream { ReadsFromStream S.remaining self.old.stream self.new.stream result
             buf.new }
     {
         match self.stream.read(buf) {
             Ok(count) => {
-                self.note_progress(times);
+                self.record_progress(times);
                 Ok(Progress::Moved(count))
             }
-            Err(fault) => self.note_fault(fault.kind(), Waits::Readable),
+            Err(fault) => self.record_fault(fault.kind(), Waits::Readable),
         }
     }
 
@@ -126,15 +127,16 @@ impl<S: Drop> Slot<S> {
     where
         S: Write,
         ensures within_piece { MayWrite piece.now result }
-        ensures to_stream { GoesTo S.contents self.old.stream self.new.stream result piece.now }
+        ensures to_stream { WritesToStream S.contents self.old.stream self.new.stream result
+            piece.now }
     {
         match self.stream.write(piece) {
             Ok(0) => Err(Failed),
             Ok(count) => {
-                self.note_progress(times);
+                self.record_progress(times);
                 Ok(Progress::Moved(count))
             }
-            Err(fault) => self.note_fault(fault.kind(), Waits::Writable),
+            Err(fault) => self.record_fault(fault.kind(), Waits::Writable),
         }
     }
 
@@ -150,12 +152,12 @@ impl<S: Drop> Slot<S> {
     // Its connection is between two requests.
     fn rest(&mut self, times: &Times) {
         self.is_resting = true;
-        self.silent_until = times.after(times.limits.rest);
+        self.silent_until = times.deadline_after(times.limits.rest);
         self.served_until = None;
     }
 
     // What it waits for may have come.
-    fn note(&mut self, found: &Readiness) {
+    fn record_readiness(&mut self, found: &Readiness) {
         let comes = match self.waits {
             Waits::Nothing => true,
             Waits::Readable => found.can_read,
@@ -209,10 +211,14 @@ pub fn write_at<S: Write + Drop>(
 }
 
 // Notes what a poll found of the socket at a place.
-pub fn note_at<S: Drop>(slots: &mut Vec<Option<Slot<S>>>, place: usize, found: &Readiness) {
+pub fn record_readiness_at<S: Drop>(
+    slots: &mut Vec<Option<Slot<S>>>,
+    place: usize,
+    found: &Readiness,
+) {
     if place < slots.len() {
         if let Some(slot) = &mut slots[place] {
-            slot.note(found);
+            slot.record_readiness(found);
         }
     }
 }

@@ -7,7 +7,7 @@ use Rattle.xml_tree.specs.Print.{document_print, print}
 use Rattle.xml_names.proofs.Escapes.{encode-text, encode-value}
 use Rattle.reply_bodies.specs.declared.conflicts.ErrorBody.{ErrorBody}
 use Rattle.reply_bodies.specs.declared.conflicts.ErrorBody.TheVariants.{NotUtf8, NotWellFormed, NotXmlFrag, NotXmlAttValue, NoParent, Schema, CannotInsert, CannotDelete, Unique, Constraint}
-use Rattle.reply_bodies.specs.Conflicts.{IsNamed, conflict, conflict_root, conflict_bytes, child_bytes}
+use Rattle.reply_bodies.specs.Conflicts.{HasNonEmptyUri, conflict_element, conflict_root, conflict_bytes, child_bytes}
 
 -- the bytes before and after the child of the root
 abbrev opening_bytes : List ℕ
@@ -28,13 +28,13 @@ closing_ascii : encode_utf8_all closing_bytes ≡ closing_bytes
 unfolding encode
 closing_ascii = refl
 
-document_parts : (body : ErrorBody) → document_print (conflict_root body) ≡ opening_bytes ++ ((print (conflict body) ++ []) ++ closing_bytes)
+document_parts : (body : ErrorBody) → document_print (conflict_root body) ≡ opening_bytes ++ ((print (conflict_element body) ++ []) ++ closing_bytes)
 document_parts body = refl
 
-no_parent_parts : (c : ℕ) (u : List ℕ) → print (conflict (NoParent (c ∷ u))) ≡ codes "<no-parent><ancestor>" ++ (((print_text (c ∷ u) ++ codes "</ancestor>") ++ []) ++ codes "</no-parent>")
+no_parent_parts : (c : ℕ) (u : List ℕ) → print (conflict_element (NoParent (c ∷ u))) ≡ codes "<no-parent><ancestor>" ++ (((print_text (c ∷ u) ++ codes "</ancestor>") ++ []) ++ codes "</no-parent>")
 no_parent_parts c u = refl
 
-unique_parts : (f : List ℕ) → print (conflict (Unique f)) ≡ (codes "<uniqueness-failure><exists field=" ++ (34 ∷ [])) ++ (((((flat_map value_escape f ++ 34 ∷ []) ++ []) ++ codes "/>") ++ []) ++ codes "</uniqueness-failure>")
+unique_parts : (f : List ℕ) → print (conflict_element (Unique f)) ≡ (codes "<uniqueness-failure><exists field=" ++ (34 ∷ [])) ++ (((((flat_map value_escape f ++ 34 ∷ []) ++ []) ++ codes "/>") ++ []) ++ codes "</uniqueness-failure>")
 unique_parts f = refl
 
 ancestor_start : encode_utf8_all (codes "<no-parent><ancestor>") ≡ codes "<no-parent><ancestor>"
@@ -53,7 +53,7 @@ field_end : encode_utf8_all (34 ∷ codes "/></uniqueness-failure>") ≡ 34 ∷ 
 unfolding encode
 field_end = refl
 
-no_parent_is : (c : ℕ) (u : List ℕ) → encode_utf8_all (print (conflict (NoParent (c ∷ u)))) ≡ child_bytes (NoParent (c ∷ u))
+no_parent_is : (c : ℕ) (u : List ℕ) → encode_utf8_all (print (conflict_element (NoParent (c ∷ u)))) ≡ child_bytes (NoParent (c ∷ u))
 no_parent_is c u =
     let t = print_text (c ∷ u) in
     let tail : ((t ++ codes "</ancestor>") ++ []) ++ codes "</no-parent>" ≡ t ++ codes "</ancestor></no-parent>" = simp (append-nil, append_assoc) in
@@ -62,7 +62,7 @@ no_parent_is c u =
     ∙ ap (λ x. codes "<no-parent><ancestor>" ++ (x ++ codes "</ancestor></no-parent>")) (encode-text (c ∷ u))
     ∙ sym (append_assoc (codes "<no-parent><ancestor>") (flat_map text_escape (encode_utf8_all (c ∷ u))) (codes "</ancestor></no-parent>"))
 
-unique_is : (f : List ℕ) → encode_utf8_all (print (conflict (Unique f))) ≡ child_bytes (Unique f)
+unique_is : (f : List ℕ) → encode_utf8_all (print (conflict_element (Unique f))) ≡ child_bytes (Unique f)
 unique_is f =
     let v = flat_map value_escape f in
     let start = codes "<uniqueness-failure><exists field=" ++ (34 ∷ []) in
@@ -72,7 +72,7 @@ unique_is f =
     ∙ ap (λ x. start ++ (x ++ (34 ∷ codes "/></uniqueness-failure>"))) (encode-value f)
     ∙ sym (append_assoc start (flat_map value_escape (encode_utf8_all f)) (34 ∷ codes "/></uniqueness-failure>"))
 
-child_is : (body : ErrorBody) → IsNamed body → encode_utf8_all (print (conflict body)) ≡ child_bytes body
+child_is : (body : ErrorBody) → HasNonEmptyUri body → encode_utf8_all (print (conflict_element body)) ≡ child_bytes body
 unfolding encode
 child_is NotUtf8 n = refl
 child_is NotWellFormed n = refl
@@ -86,9 +86,9 @@ child_is CannotDelete n = refl
 child_is (Unique field) n = unique_is field
 child_is Constraint n = refl
 
-pub document_is : (body : ErrorBody) → IsNamed body → conflict_bytes body ≡ encode_utf8_all (document_print (conflict_root body))
+pub document_is : (body : ErrorBody) → HasNonEmptyUri body → conflict_bytes body ≡ encode_utf8_all (document_print (conflict_root body))
 document_is body n =
-    let c = print (conflict body) in
+    let c = print (conflict_element body) in
     append_assoc opening_bytes (child_bytes body) closing_bytes
     ∙ ap (λ x. opening_bytes ++ (x ++ closing_bytes)) (sym (child_is body n))
     ∙ sym (ap encode_utf8_all (document_parts body ∙ ap (λ x. opening_bytes ++ (x ++ closing_bytes)) (append-nil c)) ∙ three opening_bytes c closing_bytes _ _ opening_ascii closing_ascii)

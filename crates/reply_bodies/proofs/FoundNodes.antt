@@ -7,12 +7,12 @@ use Rattle.xml_tree.specs.Tree.{Tree, at}
 use Rattle.xml_tree.specs.TreeScopes.{scope_at}
 use Rattle.xml_names.specs.declared.names.Attr.{Attr}
 use Rattle.xml_names.specs.declared.names.Decl.{Decl}
-use Rattle.node_select.specs.Selection.{Found, has_end, is_attr, selected_in}
+use Rattle.node_select.specs.Selection.{FindsNode, has_end, is_attr_named, selected_element_path}
 use Rattle.node_select.specs.declared.selector.End.{End}
 use Rattle.node_select.specs.declared.selector.End.TheVariants.{Element, Attribute, Namespaces}
 use Rattle.node_select.specs.declared.selector.Selector.{Selector}
 use Rattle.node_select.proofs.ReachLemmas.{path_is}
-use Rattle.reply_bodies.specs.Nodes.{found_text, node_text, text_at}
+use Rattle.reply_bodies.specs.Nodes.{found_text, node_text, node_text_at}
 
 -- something is found where an item passes
 some_found : {A : Type 0} (f : A → Bool) (xs : List A) → is_some (find f xs) ≡ list_any f xs
@@ -29,7 +29,7 @@ attribute_there (Some attr) = refl
 
 node_there : (end : End) (c : List (List Decl)) (e : Tree) → is_some (node_text end c e) ≡ has_end end c e
 node_there Element c e = refl
-node_there (Attribute uri local) c e = attribute_there (find (is_attr c uri local) e.attrs) ∙ some_found (is_attr c uri local) e.attrs
+node_there (Attribute uri local) c e = attribute_there (find (is_attr_named c uri local) e.attrs) ∙ some_found (is_attr_named c uri local) e.attrs
 node_there Namespaces c e = refl
 
 -- a chain that ends in a value begins with one
@@ -37,9 +37,9 @@ from_chain : {A B : Type 0} (o : Option A) (f : A → Option B) → IsSome (opti
 from_chain None f h = absurd cc
 from_chain (Some x) f h = (x, refl, h)
 
-pub found_from_text : (root : Tree) (selector : Selector) → IsSome (found_text root selector) → Found root selector
+pub found_from_text : (root : Tree) (selector : Selector) → IsSome (found_text root selector) → FindsNode root selector
 found_from_text root selector h =
-    let place = from_chain (selected_in selector.steps root) (λ p. text_at selector.end p root) h in
+    let place = from_chain (selected_element_path selector.steps root) (λ p. node_text_at selector.end p root) h in
     let there = from_chain (at place.0 root) (node_text selector.end (scope_at place.0 root)) place.2 in
     record {
       path = place.0;
@@ -49,9 +49,9 @@ found_from_text root selector h =
       has = sym (node_there selector.end (scope_at place.0 root) there.0) ∙ there.2;
     }
 
-pub text_from_found : (root : Tree) (selector : Selector) → Found root selector → IsSome (found_text root selector)
+pub text_from_found : (root : Tree) (selector : Selector) → FindsNode root selector → IsSome (found_text root selector)
 text_from_found root selector found =
     let c = scope_at found.path root in
-    ap (λ (o : Option (List ℕ)). is_some (option_and_then (λ p. text_at selector.end p root) o)) ((path_is selector.steps root found.path).1 found.selects)
+    ap (λ (o : Option (List ℕ)). is_some (option_and_then (λ p. node_text_at selector.end p root) o)) ((path_is selector.steps root found.path).1 found.selects)
     ∙ ap (λ (o : Option Tree). is_some (option_and_then (node_text selector.end c) o)) found.there
     ∙ node_there selector.end c found.element ∙ found.has

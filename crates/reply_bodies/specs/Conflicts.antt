@@ -4,7 +4,7 @@ use Rattle.xml_tree.specs.Tree.{last, Tree, tree_of, more_of}
 use Rattle.xml_names.specs.Markup.{text_escape, value_escape}
 use Rattle.xml_tree.specs.Print.{header}
 use Rattle.xml_names.specs.declared.names.Decl.{Decl}
-use Rattle.xml_names.specs.ExpandedNames.{name_of}
+use Rattle.xml_names.specs.ExpandedNames.{name_from_parts}
 use Rattle.reply_bodies.specs.declared.conflicts.ErrorBody.{ErrorBody}
 use Rattle.reply_bodies.specs.declared.conflicts.ErrorBody.TheVariants.{NotUtf8, NotWellFormed}
 use Rattle.reply_bodies.specs.declared.conflicts.ErrorBody.TheVariants.{NotXmlFrag, NotXmlAttValue}
@@ -38,29 +38,31 @@ conflict_bytes body =
 -- ---- the document as a tree
 
 -- an empty element of this name
-abbrev pub empty : List ℕ → Tree
-empty local = tree_of (name_of [] local) [] [] (last [])
+abbrev pub empty_element : List ℕ → Tree
+empty_element local = tree_of (name_from_parts [] local) [] [] (last [])
 
 -- an element with one child and no white space
-abbrev pub around : List ℕ → Tree → Tree
-around local child_element = tree_of (name_of [] local) [] [] (more_of [] child_element (last []))
+abbrev pub wrap_element : List ℕ → Tree → Tree
+wrap_element local child_element =
+    tree_of (name_from_parts [] local) [] [] (more_of [] child_element (last []))
 
 -- the child of the root that says what is wrong
-abbrev pub conflict : ErrorBody → Tree
-conflict NotUtf8 = empty (codes "not-utf-8")
-conflict NotWellFormed = empty (codes "not-well-formed")
-conflict NotXmlFrag = empty (codes "not-xml-frag")
-conflict NotXmlAttValue = empty (codes "not-xml-att-value")
-conflict (NoParent uri) =
-    around (codes "no-parent") (tree_of (name_of [] (codes "ancestor")) [] [] (last uri))
-conflict Schema = empty (codes "schema-validation-error")
-conflict CannotInsert = empty (codes "cannot-insert")
-conflict CannotDelete = empty (codes "cannot-delete")
-conflict (Unique field) =
-    around (codes "uniqueness-failure")
-    (tree_of (name_of [] (codes "exists")) []
-    (record { name = name_of [] (codes "field"); value = field } ∷ []) (last []))
-conflict Constraint = empty (codes "constraint-failure")
+abbrev pub conflict_element : ErrorBody → Tree
+conflict_element NotUtf8 = empty_element (codes "not-utf-8")
+conflict_element NotWellFormed = empty_element (codes "not-well-formed")
+conflict_element NotXmlFrag = empty_element (codes "not-xml-frag")
+conflict_element NotXmlAttValue = empty_element (codes "not-xml-att-value")
+conflict_element (NoParent uri) =
+    wrap_element (codes "no-parent")
+    (tree_of (name_from_parts [] (codes "ancestor")) [] [] (last uri))
+conflict_element Schema = empty_element (codes "schema-validation-error")
+conflict_element CannotInsert = empty_element (codes "cannot-insert")
+conflict_element CannotDelete = empty_element (codes "cannot-delete")
+conflict_element (Unique field) =
+    wrap_element (codes "uniqueness-failure")
+    (tree_of (name_from_parts [] (codes "exists")) []
+    (record { name = name_from_parts [] (codes "field"); value = field } ∷ []) (last []))
+conflict_element Constraint = empty_element (codes "constraint-failure")
 
 -- the default namespace of the document
 abbrev pub error_decls : List Decl
@@ -68,9 +70,10 @@ error_decls = record { prefix = []; uri = codes "urn:ietf:params:xml:ns:xcap-err
 
 abbrev pub conflict_root : ErrorBody → Tree
 conflict_root body =
-    tree_of (name_of [] (codes "xcap-error")) error_decls [] (more_of [] (conflict body) (last []))
+    tree_of (name_from_parts [] (codes "xcap-error")) error_decls []
+    (more_of [] (conflict_element body) (last []))
 
 -- a URI, where there is one, is not empty
-abbrev pub IsNamed : ErrorBody → Type 0
-IsNamed (NoParent uri) = uri ≢ []
-IsNamed _ = Unit {0}
+abbrev pub HasNonEmptyUri : ErrorBody → Type 0
+HasNonEmptyUri (NoParent uri) = uri ≢ []
+HasNonEmptyUri _ = Unit {0}

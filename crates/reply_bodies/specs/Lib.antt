@@ -1,3 +1,3 @@
 pub mod Conflicts
+pub mod NodePlaces
 pub mod Nodes
-pub mod Places

@@ -3,7 +3,8 @@ ghost use Rattle.std.specs.Prelude.{◌≡◌, [], ◌∷◌, ◌++◌, IfNone, 
 ghost use Rattle.std.specs.Prelude.{encode_utf8_all, flat_map};
 ghost use Rattle.xml_names.specs.Markup.{text_escape, value_escape};
 ghost use Rattle.xml_tree.specs.Print.{document_print};
-ghost use Rattle.reply_bodies.specs.Conflicts.{IsNamed, conflict_root, conflict_bytes, child_bytes};
+ghost use Rattle.reply_bodies.specs.Conflicts.{HasNonEmptyUri, conflict_root, conflict_bytes};
+ghost use Rattle.reply_bodies.specs.Conflicts.{child_bytes};
 
 use std::alloc::Global;
 use xcap_io::Bytes;
@@ -38,7 +39,7 @@ const CLOSING: &[u8] = b"</xcap-error>";
 /// `NoMemory` when out of memory.
 pub fn error_document(alloc: Global, body: &ErrorBody) -> Result<Bytes, NoMemory>
     ensures ok { IfOk result (λ document. document ≡ conflict_bytes body.now) }
-    ensures prints_error { IsNamed body.now
+    ensures prints_error { HasNonEmptyUri body.now
         → IfOk result (λ document. document
         ≡ encode_utf8_all (document_print (conflict_root body.now))) }
 {

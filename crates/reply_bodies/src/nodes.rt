@@ -4,11 +4,12 @@ ghost use Rattle.std.specs.List.{find};
 ghost use Rattle.std.specs.Option.{option_copied};
 ghost use Rattle.xml_names.specs.declared.limits.TheConstants.{MAX_LEVELS};
 ghost use Rattle.xml_tree.specs.Print.{print};
-ghost use Rattle.xml_names.specs.Scopes.{bindings_in};
+ghost use Rattle.xml_names.specs.Scopes.{in_scope_bindings};
 ghost use Rattle.xml_tree.specs.Tree.{at, height, last, tree_of};
 ghost use Rattle.tree_print.specs.AttributeBodyPrints.{body_print};
-ghost use Rattle.node_select.specs.Selection.{is_attr};
-ghost use Rattle.reply_bodies.specs.Nodes.{encoded, found_text, node_media, node_text, text_at};
+ghost use Rattle.node_select.specs.Selection.{is_attr_named};
+ghost use Rattle.reply_bodies.specs.Nodes.{encode_optional, found_text, node_media_type, node_text};
+ghost use Rattle.reply_bodies.specs.Nodes.{node_text_at};
 
 use node_select::{End, Selector, find_attr, select};
 use reply_text::MediaType;
@@ -21,7 +22,7 @@ use xml_tree::{Element, Path, Scope, element_at};
 // ---- one node
 
 // The attribute of an element that has this expanded name, in the scope at the element.
-fn attribute<'a>(
+fn find_attribute<'a>(
     alloc: Global,
     element: &'a Element,
     scope: &Scope<'_>,
@@ -29,7 +30,7 @@ fn attribute<'a>(
     local: &Text,
 ) -> Option<&'a Attr>
     ensures exact { option_copied result
-        ≡ find (is_attr scope.now uri.now local.now) element.now.attrs }
+        ≡ find (is_attr_named scope.now uri.now local.now) element.now.attrs }
 {
     let place = find_attr(alloc, element, scope, uri.as_str(), local.as_str())?;
     element.attrs().get(place)
@@ -38,7 +39,8 @@ fn attribute<'a>(
 // The value of an attribute, if there is one, as a reply's body.
 fn attribute_text(alloc: Global, attr: Option<&Attr>) -> Result<Option<Bytes>, NoMemory>
     ensures ok { IfOk result
-        (λ text. text ≡ encoded (option_map (λ a. body_print a.value) (option_copied attr.entry))) }
+        (λ text. text
+        ≡ encode_optional (option_map (λ a. body_print a.value) (option_copied attr.entry))) }
 {
     match attr {
         None => Ok(None),
@@ -63,8 +65,8 @@ fn declaring_element(alloc: Global, name: &Name, decls: Vec<Decl>) -> Result<Ele
 // All bindings in scope at an element, as the declarations of an empty element with its name.
 fn bindings_text(alloc: Global, element: &Element, scope: &Scope<'_>) -> Result<Bytes, NoMemory>
     ensures declares_scope { IfOk result
-        (λ text. Some text ≡ encoded
-        (Some (print (tree_of element.now.name (bindings_in scope.now) [] (last []))))) }
+        (λ text. Some text ≡ encode_optional
+        (Some (print (tree_of element.now.name (in_scope_bindings scope.now) [] (last []))))) }
 {
     let decls = scope.bindings(alloc)?;
     let declaring = declaring_element(alloc, element.name(), decls)?;
@@ -73,7 +75,7 @@ fn bindings_text(alloc: Global, element: &Element, scope: &Scope<'_>) -> Result<
 
 // The text of an element as it is in the document.
 fn element_text(alloc: Global, element: &Element) -> Result<Option<Bytes>, NoMemory>
-    ensures ok { IfOk result (λ text. text ≡ encoded (Some (print element.now))) }
+    ensures ok { IfOk result (λ text. text ≡ encode_optional (Some (print element.now))) }
 {
     let text = print_element(alloc, element)?;
     Ok(Some(text))
@@ -86,12 +88,13 @@ fn node_text(
     scope: &Scope<'_>,
     end: &End,
 ) -> Result<Option<Bytes>, NoMemory>
-    ensures ok { IfOk result (λ text. text ≡ encoded (node_text end.now scope.now element.now)) }
+    ensures ok { IfOk result
+        (λ text. text ≡ encode_optional (node_text end.now scope.now element.now)) }
 {
     match end {
         End::Element => element_text(alloc, element),
         End::Attribute { uri, local } => {
-            attribute_text(alloc, attribute(alloc, element, scope, uri, local))
+            attribute_text(alloc, find_attribute(alloc, element, scope, uri, local))
         }
         End::Namespaces => {
             let text = bindings_text(alloc, element, scope)?;
@@ -106,7 +109,9 @@ fn has_node(alloc: Global, element: &Element, scope: &Scope<'_>, end: &End) -> b
 {
     match end {
         End::Element => true,
-        End::Attribute { uri, local } => attribute(alloc, element, scope, uri, local).is_some(),
+        End::Attribute { uri, local } => find_attribute(
+            alloc, element, scope, uri, local,
+        ).is_some(),
         End::Namespaces => true,
     }
 }
@@ -122,7 +127,8 @@ fn scoped_text_at(
     end: &End,
 ) -> Result<Option<Bytes>, NoMemory>
     requires { at path.now root.now ≡ Some element.now }
-    ensures ok { IfOk result (λ text. text ≡ encoded (text_at end.now path.now root.now)) }
+    ensures ok { IfOk result
+        (λ text. text ≡ encode_optional (node_text_at end.now path.now root.now)) }
 {
     let Some(scope) = Scope::at(root, path) else {
         return Ok(None);
@@ -132,8 +138,14 @@ fn scoped_text_at(
 
 // The text of what a selector's end finds at the element of a path. An element is sent as it is,
 // whatever its scope.
-fn text_at(alloc: Global, root: &Element, path: &Path, end: &End) -> Result<Option<Bytes>, NoMemory>
-    ensures ok { IfOk result (λ text. text ≡ encoded (text_at end.now path.now root.now)) }
+fn node_text_at(
+    alloc: Global,
+    root: &Element,
+    path: &Path,
+    end: &End,
+) -> Result<Option<Bytes>, NoMemory>
+    ensures ok { IfOk result
+        (λ text. text ≡ encode_optional (node_text_at end.now path.now root.now)) }
 {
     let Some(element) = element_at(root, path) else {
         return Ok(None);
@@ -150,7 +162,7 @@ fn text_at(alloc: Global, root: &Element, path: &Path, end: &End) -> Result<Opti
 /// that the document need not be searched again. Allocates only for indexes of declarations; the
 /// result is the same without them.
 pub fn has_node_at(alloc: Global, root: &Element, path: &Path, end: &End) -> bool
-    ensures exact { result ≡ is_some (text_at end.now path.now root.now) }
+    ensures exact { result ≡ is_some (node_text_at end.now path.now root.now) }
 {
     let Some(element) = element_at(root, path) else {
         return false;
@@ -176,18 +188,18 @@ pub fn found_text(
     selector: &Selector,
 ) -> Result<Option<Bytes>, NoMemory>
     requires { height root.now ≤ MAX_LEVELS }
-    ensures ok { IfOk result (λ text. text ≡ encoded (found_text root.now selector.now)) }
+    ensures ok { IfOk result (λ text. text ≡ encode_optional (found_text root.now selector.now)) }
 {
     let Some(path) = select(alloc, root, selector) else {
         return Ok(None);
     };
-    text_at(alloc, root, &path, &selector.end)
+    node_text_at(alloc, root, &path, &selector.end)
 }
 
 /// The media type of what a selector with this end finds (RFC 4825, section 15.2). Does not
 /// allocate.
-pub fn node_media(end: &End) -> MediaType
-    ensures exact { result ≡ node_media end.now }
+pub fn node_media_type(end: &End) -> MediaType
+    ensures exact { result ≡ node_media_type end.now }
 {
     match end {
         End::Element => MediaType::Element,

@@ -80,18 +80,18 @@ pub record SentReply : Type 0 where
   pub body : List ℕ
 
 -- all bytes of a reply
-abbrev pub bytes_of : SentReply → List ℕ
-bytes_of r = r.head ++ r.body
+abbrev pub reply_bytes : SentReply → List ℕ
+reply_bytes r = r.head ++ r.body
 
 -- the reply with this head and this body
-abbrev pub sent : HeadFields → List ℕ → SentReply
-sent fields body =
+abbrev pub sent_reply : HeadFields → List ℕ → SentReply
+sent_reply fields body =
     record { status = fields.status; closes = fields.closes; head = head_of fields; body = body }
 
 -- a reply without etag and body
-abbrev pub plain : ℕ → Bool → SentReply
-plain status closes =
-    sent (record {
+abbrev pub plain_reply : ℕ → Bool → SentReply
+plain_reply status closes =
+    sent_reply (record {
       status = status;
       tag = None;
       read_only = None;

@@ -86,7 +86,7 @@ impl HeadBuffer {
 
     // Appends the ETag field of a document (RFC 9110, section 8.8.3).
     #[tactic(auto, unfolding(crate::specs::ReplyHeads::etag_line))]
-    fn push_tag_line(&mut self, tag: u64)
+    fn push_etag_line(&mut self, tag: u64)
         requires { length self.old ≤ 300 }
         ensures appends_bytes { self.new ≡ self.old ++ etag_line tag }
         ensures byte_limit { length self.new ≤ length self.old + 50 }
@@ -103,7 +103,7 @@ impl HeadBuffer {
         ensures byte_limit { length self.new ≤ length self.old + 50 }
     {
         if let Some(tag) = tag {
-            self.push_tag_line(tag);
+            self.push_etag_line(tag);
         }
     }
 
@@ -192,7 +192,7 @@ impl HeadBuffer {
     }
 
     /// Appends the empty line.
-    pub(crate) fn push_end(&mut self)
+    pub(crate) fn push_empty_line(&mut self)
         requires { length self.old ≤ 380 }
         ensures exact { self.new ≡ self.old ++ line_end }
     {

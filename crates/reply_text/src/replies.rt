@@ -1,7 +1,7 @@
 //! Replies (RFC 9112).
 ghost use Rattle.std.specs.Prelude.{◌≡◌, ◌≢◌, [], length, None, Some, IsTrue};
 ghost use Rattle.reply_text.specs.Statuses.{is_status};
-ghost use Rattle.reply_text.specs.ReplyHeads.{head_of, plain, sent};
+ghost use Rattle.reply_text.specs.ReplyHeads.{head_of, plain_reply, sent_reply};
 
 use crate::head_buffer::HeadBuffer;
 use crate::media_types::MediaType;
@@ -59,7 +59,7 @@ fn head(
     head.push_media(media);
     head.push_length(status, size);
     head.push_close(closes);
-    head.push_end();
+    head.push_empty_line();
     head
 }
 
@@ -68,7 +68,7 @@ impl Reply {
     pub fn fixed(status: u16, close: bool) -> Reply
         requires valid_status { IsTrue (is_status status) }
         requires plain_status { (status ≢ 304) × (status ≢ 405) × (status ≢ 409) }
-        ensures exact { result ≡ plain status close }
+        ensures exact { result ≡ plain_reply status close }
     {
         Reply {
             status,
@@ -81,7 +81,7 @@ impl Reply {
     /// The 405, with the methods of a resource that is read-only or of any other. Does not
     /// allocate.
     pub fn method(read_only: bool, close: bool) -> Reply
-        ensures exact { result ≡ sent
+        ensures exact { result ≡ sent_reply
             (record {
               status = 405;
               tag = None;
@@ -111,7 +111,7 @@ impl Reply {
         requires valid_status { IsTrue (is_status status) }
         requires plain_status { status ≢ 405 }
         requires no_body { status ≡ 304 → body ≡ [] }
-        ensures exact { result ≡ sent
+        ensures exact { result ≡ sent_reply
             (record {
               status = status;
               tag = tag;
@@ -135,7 +135,7 @@ impl Reply {
     pub fn lent(status: u16, tag: Option<u64>, media: MediaType, size: usize, close: bool) -> Reply
         requires valid_status { IsTrue (is_status status) }
         requires plain_status { (status ≢ 304) × (status ≢ 405) }
-        ensures exact { result ≡ sent
+        ensures exact { result ≡ sent_reply
             (record {
               status = status;
               tag = tag;

@@ -5,15 +5,15 @@ use Rattle.std.specs.List.{prefix_len}
 use Rattle.std.proofs.lemmas.List.Sums.{take_while-cons}
 use Rattle.std.proofs.lemmas.Bool.Decides.{nat_tests}
 use Rattle.request_checks.specs.declared.entity_tags.EntityTag.{EntityTag}
-use Rattle.request_checks.specs.Tags.{AreAll, is_tag_byte, is_ows_byte as is_blank}
+use Rattle.request_checks.specs.Tags.{AllBytesPass, is_tag_byte, is_ows_byte as is_blank}
 use Rattle.request_checks.specs.readers.Fields.{Before, Letter, Slash, Inside, Behind, IsTrimmed, after_blanks, after_byte, after_closing_quote, opaque_front, quoted_tag, first_tag, after_letter, after_slash, tags_from, with_tags, entity_tag as tag_of}
 
 -- blanks are skipped, before a tag and after it
-pub before-blanks : (bs s : List ℕ) → AreAll is_blank bs → tags_from Before (bs ++ s) ≡ tags_from Before s
+pub before-blanks : (bs s : List ℕ) → AllBytesPass is_blank bs → tags_from Before (bs ++ s) ≡ tags_from Before s
 before-blanks [] s h = refl
 before-blanks (b ∷ bs) s h = rw h.0 (before-blanks bs s h.1)
 
-pub behind-blanks : (bs s : List ℕ) → AreAll is_blank bs → tags_from Behind (bs ++ s) ≡ tags_from Behind s
+pub behind-blanks : (bs s : List ℕ) → AllBytesPass is_blank bs → tags_from Behind (bs ++ s) ≡ tags_from Behind s
 behind-blanks [] s h = refl
 behind-blanks (b ∷ bs) s h = rw h.0 (behind-blanks bs s h.1)
 
@@ -22,11 +22,11 @@ quote_is_none : (c : ℕ) → is_tag_byte c ≡ true → (c == 34) ≡ false
 quote_is_none c h = grind (arith, nat_tests)
 
 -- the bytes between quotes are read as the tag's
-pub inside-after_closing_quote : (o s : List ℕ) → AreAll is_tag_byte o → tags_from Inside (o ++ 34 ∷ s) ≡ tags_from Behind s
+pub inside-after_closing_quote : (o s : List ℕ) → AllBytesPass is_tag_byte o → tags_from Inside (o ++ 34 ∷ s) ≡ tags_from Behind s
 inside-after_closing_quote [] s h = refl
 inside-after_closing_quote (c ∷ o) s h = let e = quote_is_none c h.0 in rw (e, h.0) (inside-after_closing_quote o s h.1)
 
-pub front-after_closing_quote : (o s : List ℕ) → AreAll is_tag_byte o → opaque_front (o ++ 34 ∷ s) ≡ o
+pub front-after_closing_quote : (o s : List ℕ) → AllBytesPass is_tag_byte o → opaque_front (o ++ 34 ∷ s) ≡ o
 front-after_closing_quote [] s h = refl
 front-after_closing_quote (c ∷ o) s h = take_while-cons is_tag_byte c (o ++ 34 ∷ s) ∙ rw h.0 (ap (λ r. c ∷ r) (front-after_closing_quote o s h.1))
 

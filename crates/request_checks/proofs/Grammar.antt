@@ -4,8 +4,8 @@ use Rattle.std.specs.List.{AllByRecursion, filter_map, flat_map, cons_option}
 use Rattle.std.specs.Option.{option_map_or, option_to_list, IfSome}
 use Rattle.std.proofs.lemmas.Bool.Decides.{nat_tests}
 use Rattle.request_checks.specs.declared.entity_tags.EntityTag.{EntityTag}
-use Rattle.request_checks.specs.Tags.{AreAll, IsPart, SpellsTags, tag_text, comma_joined, is_tag_byte, ListPart as Part, is_ows_byte as is_blank}
-use Rattle.request_checks.specs.readers.Fields.{Place, Before, Letter, Slash, Inside, Behind, opaque_front, tags_from, with_tags, entity_tag as tag_of}
+use Rattle.request_checks.specs.Tags.{AllBytesPass, IsListPart, SpellsTags, tag_text, join_with_commas, is_tag_byte, ListPart as Part, is_ows_byte as is_blank}
+use Rattle.request_checks.specs.readers.Fields.{ListState, Before, Letter, Slash, Inside, Behind, opaque_front, tags_from, with_tags, entity_tag as tag_of}
 use Rattle.request_checks.proofs.Fronts.{before-blanks, behind-blanks, inside-after_closing_quote, front-after_closing_quote}
 
 -- a part as it is written
@@ -26,7 +26,7 @@ with-none : (o : Option (List EntityTag)) → with_tags [] o ≡ o
 with-none None = refl
 with-none (Some ts) = refl
 
-tag-read : (weak : Bool) (o s : List ℕ) → AreAll is_tag_byte o → tags_from Before (tag_text (tag_of weak o) ++ s) ≡ with_tags (tag_of weak o ∷ []) (tags_from Behind s)
+tag-read : (weak : Bool) (o s : List ℕ) → AllBytesPass is_tag_byte o → tags_from Before (tag_text (tag_of weak o) ++ s) ≡ with_tags (tag_of weak o ∷ []) (tags_from Behind s)
 tag-read true o s h =
     ap (λ r. with_tags (tag_of true (opaque_front r) ∷ []) (tags_from Inside r)) (append_assoc o (34 ∷ []) s)
     ∙ ap (λ q. with_tags (tag_of true q ∷ []) (tags_from Inside (o ++ 34 ∷ s))) (front-after_closing_quote o s h)
@@ -36,7 +36,7 @@ tag-read false o s h =
     ∙ ap (λ q. with_tags (tag_of false q ∷ []) (tags_from Inside (o ++ 34 ∷ s))) (front-after_closing_quote o s h)
     ∙ ap (λ m. with_tags (tag_of false o ∷ []) m) (inside-after_closing_quote o s h)
 
-part-read : (before : List ℕ) (tag : Option EntityTag) (behind : List ℕ) (ps : List Part) → AreAll is_blank before → IfSome tag (λ t. AreAll is_tag_byte t.opaque) → AreAll is_blank behind → tags_from Before ((before ++ (option_map_or tag_text tag [] ++ behind)) ++ rest_text ps) ≡ with_tags (option_to_list tag) (tags_from Behind (rest_text ps))
+part-read : (before : List ℕ) (tag : Option EntityTag) (behind : List ℕ) (ps : List Part) → AllBytesPass is_blank before → IfSome tag (λ t. AllBytesPass is_tag_byte t.opaque) → AllBytesPass is_blank behind → tags_from Before ((before ++ (option_map_or tag_text tag [] ++ behind)) ++ rest_text ps) ≡ with_tags (option_to_list tag) (tags_from Behind (rest_text ps))
 part-read before None behind ps a t b =
     ap (λ s. tags_from Before s) (append_assoc before behind (rest_text ps))
     ∙ before-blanks before (behind ++ rest_text ps) a
@@ -54,14 +54,14 @@ tagged : (tag : Option EntityTag) (ps : List Part) (ts : List EntityTag) → Som
 tagged None ps ts = refl
 tagged (Some t) ps ts = refl
 
-rest-read : (ps : List Part) → AllByRecursion IsPart ps → tags_from Behind (rest_text ps) ≡ Some (filter_map (λ p. p.tag) ps)
+rest-read : (ps : List Part) → AllByRecursion IsListPart ps → tags_from Behind (rest_text ps) ≡ Some (filter_map (λ p. p.tag) ps)
 rest-read [] h = refl
 rest-read (p ∷ ps) h =
     part-read p.before p.tag p.behind ps h.0.before h.0.tag h.0.behind
     ∙ ap (λ o. with_tags (option_to_list p.tag) o) (rest-read ps h.1)
     ∙ tagged p.tag ps (filter_map (λ q. q.tag) ps)
 
-parts-read : (ps : List Part) → AllByRecursion IsPart ps → tags_from Before (comma_joined (map part_text ps)) ≡ Some (filter_map (λ p. p.tag) ps)
+parts-read : (ps : List Part) → AllByRecursion IsListPart ps → tags_from Before (join_with_commas (map part_text ps)) ≡ Some (filter_map (λ p. p.tag) ps)
 parts-read [] h = refl
 parts-read (p ∷ ps) h = rest-read (p ∷ ps) h
 
@@ -76,8 +76,8 @@ record Tail (s : List ℕ) (ts : List EntityTag) : Type 0 where
   parts : List Part
   spelled : s ≡ blanks ++ rest_text parts
   tagged : ts ≡ filter_map (λ p. p.tag) parts
-  blank : AreAll is_blank blanks
-  lawful : AllByRecursion IsPart parts
+  blank : AllBytesPass is_blank blanks
+  lawful : AllByRecursion IsListPart parts
 
 -- a part and the rest
 record Whole (s : List ℕ) (ts : List EntityTag) : Type 0 where
@@ -85,15 +85,15 @@ record Whole (s : List ℕ) (ts : List EntityTag) : Type 0 where
   parts : List Part
   spelled : s ≡ part_text part ++ rest_text parts
   tagged : ts ≡ filter_map (λ p. p.tag) (part ∷ parts)
-  first : IsPart part
-  lawful : AllByRecursion IsPart parts
+  first : IsListPart part
+  lawful : AllByRecursion IsListPart parts
 
 -- the bytes between quotes, the quote, and the rest
 record Quote (s : List ℕ) (ts : List EntityTag) : Type 0 where
   opaque : List ℕ
   rest : List ℕ
   spelled : s ≡ opaque ++ 34 ∷ rest
-  lawful : AreAll is_tag_byte opaque
+  lawful : AllBytesPass is_tag_byte opaque
   tail : Tail rest ts
 
 -- the rest of a weak tag, and of the text
@@ -103,17 +103,17 @@ record Weak (front s : List ℕ) (ts : List EntityTag) : Type 0 where
   rest : List ℕ
   spelled : s ≡ front ++ (34 ∷ (opaque ++ 34 ∷ rest))
   tagged : ts ≡ tag_of true opaque ∷ others
-  lawful : AreAll is_tag_byte opaque
+  lawful : AllBytesPass is_tag_byte opaque
   tail : Tail rest others
 
-abbrev Shape : Place → List ℕ → List EntityTag → Type 0
+abbrev Shape : ListState → List ℕ → List EntityTag → Type 0
 Shape Before s ts = Whole s ts
 Shape Letter s ts = Weak (47 ∷ []) s ts
 Shape Slash s ts = Weak [] s ts
 Shape Inside s ts = Quote s ts
 Shape Behind s ts = Tail s ts
 
-abbrev Sound : Place → List ℕ → Type 0
+abbrev Sound : ListState → List ℕ → Type 0
 Sound place s = (ts : List EntityTag) → tags_from place s ≡ Some ts → Shape place s ts
 
 -- a tag before the tags of the rest
@@ -144,7 +144,7 @@ empty-whole ts h =
     }
 
 -- the part of a tag, and the rest after it
-tag-whole : (t : EntityTag) (s rest : List ℕ) (ts us : List EntityTag) → s ≡ tag_text t ++ rest → ts ≡ t ∷ us → AreAll is_tag_byte t.opaque → Tail rest us → Whole s ts
+tag-whole : (t : EntityTag) (s rest : List ℕ) (ts us : List EntityTag) → s ≡ tag_text t ++ rest → ts ≡ t ∷ us → AllBytesPass is_tag_byte t.opaque → Tail rest us → Whole s ts
 tag-whole t s rest ts us e g h tail =
     record {
       part = record { before = []; tag = Some t; behind = tail.blanks };
@@ -305,7 +305,7 @@ sound-behind c cs false e ts h behind before = sound-behind-comma c cs (c == 44)
 
 -- ---- every state
 
-sound : (s : List ℕ) (place : Place) → Sound place s
+sound : (s : List ℕ) (place : ListState) → Sound place s
 sound [] Before = empty-whole
 sound [] Letter = λ ts h. cc
 sound [] Slash = λ ts h. cc

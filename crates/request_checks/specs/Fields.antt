@@ -2,7 +2,7 @@
 -- of one field), 13.1.1 and 13.1.2.
 use Rattle.std.specs.Prelude.{◌≡◌, ◌≢◌, ℕ, List, [], Option, None, Some, codes}
 use Rattle.request_checks.specs.declared.entity_tags.EntityTag.{EntityTag}
-use Rattle.request_checks.specs.Tags.{comma_joined, SpellsTags}
+use Rattle.request_checks.specs.Tags.{join_with_commas, SpellsTags}
 
 -- what a field says: it is absent; `*`; or a list of tags
 pub data FieldValue : Type 0 where
@@ -19,17 +19,18 @@ pub record Preconditions : Type 0 where
 -- tag; the lines are joined by commas
 abbrev pub HasFieldValue : List (List ℕ) → FieldValue → Type 0
 HasFieldValue lines Missing = lines ≡ []
-HasFieldValue lines Star = comma_joined lines ≡ codes "*"
-HasFieldValue lines (Tags tags) = (lines ≢ []) × SpellsTags (comma_joined lines) tags × (tags ≢ [])
+HasFieldValue lines Star = join_with_commas lines ≡ codes "*"
+HasFieldValue lines (Tags tags) =
+    (lines ≢ []) × SpellsTags (join_with_commas lines) tags × (tags ≢ [])
 
 -- both fields say this
-abbrev pub SayBoth : List (List ℕ) → List (List ℕ) → Preconditions → Type 0
-SayBoth if_match if_none_match c = HasFieldValue if_match c.if_match
+abbrev pub HaveFieldValues : List (List ℕ) → List (List ℕ) → Preconditions → Type 0
+HaveFieldValues if_match if_none_match c = HasFieldValue if_match c.if_match
     × HasFieldValue if_none_match c.if_none_match
 
 -- the reading of the lines of both fields: what they say, or None where there is nothing that both
 -- say
-abbrev pub ConditionsAnswer : List (List ℕ) → List (List ℕ) → Option Preconditions → Type 0
-ConditionsAnswer if_match if_none_match (Some c) = SayBoth if_match if_none_match c
-ConditionsAnswer if_match if_none_match None =
-    (c : Preconditions) → ¬ SayBoth if_match if_none_match c
+abbrev pub IsConditionsReading : List (List ℕ) → List (List ℕ) → Option Preconditions → Type 0
+IsConditionsReading if_match if_none_match (Some c) = HaveFieldValues if_match if_none_match c
+IsConditionsReading if_match if_none_match None =
+    (c : Preconditions) → ¬ HaveFieldValues if_match if_none_match c

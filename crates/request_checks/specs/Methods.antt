@@ -28,6 +28,6 @@ is_known _ = true
 -- ---- what a reading method is sent
 
 -- GET's reply, or for HEAD GET's reply without its body (RFC 9110, section 9.3.2)
-abbrev pub for_method : Method → SentReply → SentReply
-for_method Head reply = record reply { body = [] }
-for_method _ reply = reply
+abbrev pub reply_for_method : Method → SentReply → SentReply
+reply_for_method Head reply = record reply { body = [] }
+reply_for_method _ reply = reply

@@ -15,8 +15,8 @@ abbrev pub is_ows_byte : ℕ → Bool
 is_ows_byte c = c == 32 || c == 9
 
 -- all bytes pass the test
-abbrev pub AreAll : (ℕ → Bool) → List ℕ → Type 0
-AreAll test cs = AllByRecursion (λ c. test c ≡ true) cs
+abbrev pub AllBytesPass : (ℕ → Bool) → List ℕ → Type 0
+AllBytesPass test cs = AllByRecursion (λ c. test c ≡ true) cs
 
 -- entity-tag = [ %s"W/" ] DQUOTE *etagc DQUOTE
 abbrev pub tag_text : EntityTag → List ℕ
@@ -28,20 +28,21 @@ pub record ListPart : Type 0 where
   pub tag : Option EntityTag
   pub behind : List ℕ
 
-pub record IsPart (p : ListPart) : Type 0 where
-  pub before : AreAll is_ows_byte p.before
-  pub tag : IfSome p.tag (λ t. AreAll is_tag_byte t.opaque)
-  pub behind : AreAll is_ows_byte p.behind
+pub record IsListPart (p : ListPart) : Type 0 where
+  pub before : AllBytesPass is_ows_byte p.before
+  pub tag : IfSome p.tag (λ t. AllBytesPass is_tag_byte t.opaque)
+  pub behind : AllBytesPass is_ows_byte p.behind
 
 -- the texts, joined by commas
-abbrev pub comma_joined : List (List ℕ) → List ℕ
-comma_joined [] = []
-comma_joined (text ∷ texts) = text ++ flat_map (λ t. codes "," ++ t) texts
+abbrev pub join_with_commas : List (List ℕ) → List ℕ
+join_with_commas [] = []
+join_with_commas (text ∷ texts) = text ++ flat_map (λ t. codes "," ++ t) texts
 
 -- the text is a list of exactly these tags, in order; any part may be empty
 pub record SpellsTags (text : List ℕ) (tags : List EntityTag) : Type 0 where
   pub parts : List ListPart
   pub spelled : text
-      ≡ comma_joined (map (λ p. p.before ++ (option_map_or tag_text p.tag [] ++ p.behind)) parts)
+      ≡ join_with_commas
+      (map (λ p. p.before ++ (option_map_or tag_text p.tag [] ++ p.behind)) parts)
   pub tagged : tags ≡ filter_map (λ p. p.tag) parts
-  pub lawful : AllByRecursion IsPart parts
+  pub lawful : AllByRecursion IsListPart parts

@@ -10,26 +10,26 @@ use Rattle.request_checks.specs.declared.verdicts.Verdict.TheVariants.{Go, Same,
 use Rattle.request_checks.specs.Fields.{FieldValue, Missing, Star, Tags, Preconditions}
 
 -- the tag is the document's etag, a number in decimal; a document that isn't stored has none
-unfoldable pub is_own : Option ℕ → EntityTag → Bool
-is_own own t = option_map_or (λ number. bytes_eq t.opaque (decimal number)) own false
+unfoldable pub matches_etag_weakly : Option ℕ → EntityTag → Bool
+matches_etag_weakly own t = option_map_or (λ number. bytes_eq t.opaque (decimal number)) own false
 
 -- both are strong and equal
-unfoldable pub is_strongly_own : Option ℕ → EntityTag → Bool
-is_strongly_own own t = not t.weak && is_own own t
+unfoldable pub matches_etag_strongly : Option ℕ → EntityTag → Bool
+matches_etag_strongly own t = not t.weak && matches_etag_weakly own t
 
 -- If-Match: the resource exists, or one of the tags is the document's etag by the strong
 -- comparison
 abbrev pub if_match_holds : Option ℕ → Bool → FieldValue → Bool
 if_match_holds own exists Missing = true
 if_match_holds own exists Star = exists
-if_match_holds own exists (Tags tags) = list_any (is_strongly_own own) tags
+if_match_holds own exists (Tags tags) = list_any (matches_etag_strongly own) tags
 
 -- If-None-Match: the resource doesn't exist, or none of the tags is the document's etag by the
 -- weak comparison
 abbrev pub if_none_match_holds : Option ℕ → Bool → FieldValue → Bool
 if_none_match_holds own exists Missing = true
 if_none_match_holds own exists Star = not exists
-if_none_match_holds own exists (Tags tags) = not (list_any (is_own own) tags)
+if_none_match_holds own exists (Tags tags) = not (list_any (matches_etag_weakly own) tags)
 
 -- `If-Match` is evaluated first; an `If-None-Match` that doesn't hold means 304 for a reading
 -- request

@@ -1,8 +1,8 @@
 //! The fields `If-Match` and `If-None-Match` (RFC 9110, sections 13.1.1 and 13.1.2).
 ghost use Rattle.std.specs.Prelude.{◌≡◌, ◌++◌, [], Some, None, IfOk, IsErrOf, flat_map, codes};
-ghost use Rattle.request_checks.specs.Fields.{ConditionsAnswer, SayBoth};
+ghost use Rattle.request_checks.specs.Fields.{IsConditionsReading, HaveFieldValues};
 ghost use Rattle.request_checks.specs.readers.Fields.{text_value, field_value, conditions_of};
-ghost use Rattle.request_checks.specs.inner.Values.{value_of};
+ghost use Rattle.request_checks.specs.inner.FieldViews.{field_value_view};
 
 use crate::entity_tags::read_tags;
 use crate::{ConditionFault, EntityTag, NoMemory};
@@ -30,11 +30,11 @@ impl Model for Conditions {
 
     ghost Value = { Preconditions };
 
-    ghost use Rattle.request_checks.specs.inner.Values.{value_of};
+    ghost use Rattle.request_checks.specs.inner.FieldViews.{field_value_view};
 
     ghost view = { λ c. record {
-      if_match = value_of c.if_match;
-      if_none_match = value_of c.if_none_match;
+      if_match = field_value_view c.if_match;
+      if_none_match = field_value_view c.if_none_match;
     } };
 }
 
@@ -51,8 +51,9 @@ fn join_lines(alloc: Global, first: &Bytes, others: &[Bytes]) -> Result<Bytes, N
     Ok(text)
 }
 
-fn read_text(alloc: Global, text: &[u8]) -> Result<ConditionField, ConditionFault>
-    ensures reads_rule { IfOk result (λ field. text_value text.now ≡ Some (value_of field)) }
+fn read_field_text(alloc: Global, text: &[u8]) -> Result<ConditionField, ConditionFault>
+    ensures reads_rule { IfOk result
+        (λ field. text_value text.now ≡ Some (field_value_view field)) }
     ensures refused_no_reading { IsErrOf result ConditionFault.BadCondition
         → text_value text.now ≡ None }
 {
@@ -67,7 +68,8 @@ fn read_text(alloc: Global, text: &[u8]) -> Result<ConditionField, ConditionFaul
 }
 
 fn read_field(alloc: Global, lines: &[Bytes]) -> Result<ConditionField, ConditionFault>
-    ensures reads_rule { IfOk result (λ field. field_value lines.now ≡ Some (value_of field)) }
+    ensures reads_rule { IfOk result
+        (λ field. field_value lines.now ≡ Some (field_value_view field)) }
     ensures refused_no_reading { IsErrOf result ConditionFault.BadCondition
         → field_value lines.now ≡ None }
 {
@@ -75,7 +77,7 @@ fn read_field(alloc: Global, lines: &[Bytes]) -> Result<ConditionField, Conditio
         [] => Ok(ConditionField::Missing),
         [first, others @ ..] => {
             let text = join_lines(alloc, first, others)?;
-            read_text(alloc, text.as_slice())
+            read_field_text(alloc, text.as_slice())
         }
     }
 }
@@ -91,15 +93,15 @@ pub fn read_conditions(
     if_match: &[Bytes],
     if_none_match: &[Bytes],
 ) -> Result<Conditions, ConditionFault>
-    ensures grammar_reading { IfOk result (λ c. SayBoth if_match.now if_none_match.now c) }
+    ensures grammar_reading { IfOk result (λ c. HaveFieldValues if_match.now if_none_match.now c) }
     ensures refused_unsaid { IsErrOf result ConditionFault.BadCondition
-        → ConditionsAnswer if_match.now if_none_match.now None }
+        → IsConditionsReading if_match.now if_none_match.now None }
 {
-    read_both(alloc, if_match, if_none_match)
+    read_both_fields(alloc, if_match, if_none_match)
 }
 
 // Reads both fields.
-fn read_both(
+fn read_both_fields(
     alloc: Global,
     if_match: &[Bytes],
     if_none_match: &[Bytes],

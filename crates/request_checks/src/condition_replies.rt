@@ -1,6 +1,6 @@
 //! Replies to conditions (RFC 9110, sections 13.1.1 and 13.1.2).
 ghost use Rattle.std.specs.Prelude.{◌≡◌, IfOk};
-ghost use Rattle.request_checks.specs.Conditions.{IsStop, stopped_by};
+ghost use Rattle.request_checks.specs.Conditions.{IsConditionReply, outcome_reply};
 
 use crate::{NoMemory, Outcome, outcome};
 use http_wire::Request;
@@ -9,8 +9,8 @@ use std::alloc::Global;
 use xcap_io::Bytes;
 
 // The reply of an outcome; None where the request goes on. Does not allocate.
-fn stopped_by(alloc: Global, outcome: Outcome, tag: Option<u64>, closes: bool) -> Option<Reply>
-    ensures exact { result ≡ stopped_by outcome tag closes }
+fn outcome_reply(alloc: Global, outcome: Outcome, tag: Option<u64>, closes: bool) -> Option<Reply>
+    ensures exact { result ≡ outcome_reply outcome tag closes }
 {
     match outcome {
         Outcome::Unreadable => Some(Reply::fixed(400, closes)),
@@ -33,8 +33,8 @@ pub fn condition_reply(
     exists: bool,
     reading: bool,
 ) -> Result<Option<Reply>, NoMemory>
-    ensures exact { IfOk result (λ reply. IsStop request.now tag exists reading reply) }
+    ensures exact { IfOk result (λ reply. IsConditionReply request.now tag exists reading reply) }
 {
     let outcome = outcome(alloc, request, tag, exists, reading)?;
-    Ok(stopped_by(alloc, outcome, tag, request.closes))
+    Ok(outcome_reply(alloc, outcome, tag, request.closes))
 }

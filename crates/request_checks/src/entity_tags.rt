@@ -128,7 +128,7 @@ fn push_etag(
 }
 
 // Reads a part of a list with the blanks around it, and returns the text after it.
-fn read_part<'a>(
+fn read_list_part<'a>(
     alloc: Global,
     text: &'a [u8],
     tags: &mut Vec<EntityTag>,
@@ -162,7 +162,7 @@ pub(crate) fn read_tags(alloc: Global, text: &[u8]) -> Result<Vec<EntityTag>, Co
     let mut tags = Vec::new(alloc);
     let mut rest = text;
     'parts: loop {
-        rest = read_part(alloc, rest, &mut tags)?;
+        rest = read_list_part(alloc, rest, &mut tags)?;
         if rest.is_empty() {
             return Ok(tags);
         }

@@ -12,7 +12,7 @@ use std::alloc::Global;
 use xcap_io::Bytes;
 use xml_names::{List, Text};
 
-fn is_word(text: &Text, word: &[u8]) -> bool
+fn is_field_name(text: &Text, word: &[u8]) -> bool
     requires { IsTrue (list_all is_ascii word.now) }
     ensures exact { result ≡ same_ignoring_case text.now word.now }
 {
@@ -29,7 +29,7 @@ fn find_field<'a>(mut fields: &'a [Field], name: &[u8]) -> Option<(&'a Bytes, &'
         (λ found. length found.1.now < length fields.now) }
 {
     'fields: while let [field, rest @ ..] = fields {
-        if is_word(&field.name, name) {
+        if is_field_name(&field.name, name) {
             return Some((&field.value, rest));
         }
         fields = rest;

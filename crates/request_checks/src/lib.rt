@@ -1,9 +1,9 @@
 //! What a request's head asks: method and right, the body's media type, and the conditions'
-//! outcome. Upward: each is a function of the head alone (`method_of`, `is_allowed`, `has_type`,
-//! `HasOutcome`); the fields `If-Match` and `If-None-Match` have exactly one reading by the
-//! grammar (`ConditionsAnswer`), and the conditions one outcome and one reply (`IsStop`). The
-//! standards are RFC 9110, sections 5.6.1, 8.3, 8.4, 8.8.3, 9.3 and 13, and RFC 4825, sections 5.7
-//! and 8.
+//! outcome. Upward: each is a function of the head alone (`method_of`, `is_allowed`,
+//! `has_media_type`, `HasOutcome`); the fields `If-Match` and `If-None-Match` have exactly one
+//! reading by the grammar (`IsConditionsReading`), and the conditions one outcome and one reply
+//! (`IsConditionReply`). The standards are RFC 9110, sections 5.6.1, 8.3, 8.4, 8.8.3, 9.3 and 13,
+//! and RFC 4825, sections 5.7 and 8.
 //! The lines of a condition field are joined by commas before it is read: a tag may go over two
 //! lines, and two lines `*` have no reading.
 #![tactic(auto)]
@@ -29,9 +29,9 @@ pub use condition_replies::condition_reply;
 pub use conditions::Outcome;
 pub use entity_tags::{EntityTag, is_tag_byte};
 pub use faults::ConditionFault;
-pub use head_replies::for_method;
+pub use head_replies::reply_for_method;
 pub use laws::conditions_have_one_outcome;
-pub use media_types::{document_media, has_type};
+pub use media_types::{document_media_type, has_media_type};
 pub use method::Method;
 pub use outcomes::outcome;
 pub use rights::is_allowed;

@@ -2,7 +2,8 @@
 ghost use Rattle.std.specs.Prelude.{◌≡◌, ◌==◌, codes};
 ghost use Rattle.std.specs.List.{before_first, position};
 ghost use Rattle.httparse.specs.Grammar.{trim_ows};
-ghost use Rattle.request_checks.specs.MediaTypes.{document_media, essence, is_type, has_type};
+ghost use Rattle.request_checks.specs.MediaTypes.{document_media_type, essence, is_single_type};
+ghost use Rattle.request_checks.specs.MediaTypes.{has_media_type};
 ghost use Rattle.request_checks.specs.Rights.{fields_named};
 
 use crate::field_values::{all_values_are, single_value};
@@ -13,20 +14,21 @@ use reply_text::{MediaType, media_type};
 /// Whether the body of a request has this media type: there is exactly one `Content-Type`, which
 /// is this type, whatever its parameters, and every `Content-Encoding` is `identity`. Does not
 /// allocate.
-#[tactic(auto, unfolding(crate::specs::MediaTypes::has_type))]
-pub fn has_type(request: &Request, media: MediaType) -> bool
-    ensures exact { result ≡ has_type media request.now.fields }
+#[tactic(auto, unfolding(crate::specs::MediaTypes::has_media_type))]
+pub fn has_media_type(request: &Request, media: MediaType) -> bool
+    ensures exact { result ≡ has_media_type media request.now.fields }
 {
     let fields = request.fields.as_slice();
     if !all_values_are(fields, b"content-encoding", b"identity") {
         return false;
     }
-    is_of_type(fields, media_type(media).as_bytes())
+    has_content_type(fields, media_type(media).as_bytes())
 }
 
 #[tactic(auto, using(crate::proofs::Onlys::type_one, crate::proofs::Onlys::type_other))]
-fn is_of_type(fields: &[Field], wanted: &[u8]) -> bool
-    ensures exact { result ≡ is_type wanted.now (fields_named (codes "content-type") fields.now) }
+fn has_content_type(fields: &[Field], wanted: &[u8]) -> bool
+    ensures exact { result
+        ≡ is_single_type wanted.now (fields_named (codes "content-type") fields.now) }
 {
     match single_value(fields, b"content-type") {
         Some(value) => is_same_ignoring_case(essence(value), wanted),
@@ -38,10 +40,10 @@ fn is_of_type(fields: &[Field], wanted: &[u8]) -> bool
 fn essence(value: &[u8]) -> &[u8]
     ensures exact { result.now ≡ essence value.now }
 {
-    trim(before_semicolon(value))
+    trim_blanks(before_semicolon(value))
 }
 
-fn semicolon(value: &[u8]) -> Option<usize>
+fn semicolon_index(value: &[u8]) -> Option<usize>
     ensures exact { result ≡ position (λ b. b == 59) value.now }
 {
     value.iter().position(|b| *b == b';')
@@ -51,22 +53,22 @@ fn semicolon(value: &[u8]) -> Option<usize>
 fn before_semicolon(value: &[u8]) -> &[u8]
     ensures exact { result.now ≡ before_first (λ b. b == 59) value.now }
 {
-    match semicolon(value) {
+    match semicolon_index(value) {
         Some(len) => &value[..len],
         None => value,
     }
 }
 
 #[tactic(auto, unfolding(httparse::specs::Grammar::trim_ows))]
-fn trim(bytes: &[u8]) -> &[u8]
+fn trim_blanks(bytes: &[u8]) -> &[u8]
     ensures trims_ends { result.now ≡ trim_ows bytes.now }
 {
     trim_end(trim_start(bytes))
 }
 
 /// The media type of the documents of an application usage. Does not allocate.
-pub fn document_media(auid: Auid) -> MediaType
-    ensures exact { result ≡ document_media auid }
+pub fn document_media_type(auid: Auid) -> MediaType
+    ensures exact { result ≡ document_media_type auid }
 {
     match auid {
         Auid::ResourceLists => MediaType::ResourceLists,

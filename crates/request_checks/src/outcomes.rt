@@ -1,9 +1,9 @@
 //! The outcome of a request's conditions (RFC 9110, section 13.2.2).
 ghost use Rattle.std.specs.Prelude.{◌≡◌, IfOk, Option};
 ghost use Rattle.std.specs.Option.{option_map_or};
-ghost use Rattle.request_checks.specs.Fields.{ConditionsAnswer, Preconditions};
+ghost use Rattle.request_checks.specs.Fields.{IsConditionsReading, Preconditions};
 ghost use Rattle.request_checks.specs.Verdicts.{verdict_of};
-ghost use Rattle.request_checks.specs.Conditions.{HasOutcome, by_verdict};
+ghost use Rattle.request_checks.specs.Conditions.{HasOutcome, outcome_of_verdict};
 ghost use Rattle.request_checks.specs.declared.conditions.Outcome.TheVariants.{Unreadable};
 
 use crate::field_values::copy_values;
@@ -12,8 +12,8 @@ use http_wire::Request;
 use std::alloc::{AllocError, Global};
 use xcap_io::Bytes;
 
-fn by_verdict(verdict: Verdict) -> Outcome
-    ensures exact { result ≡ by_verdict verdict }
+fn outcome_of_verdict(verdict: Verdict) -> Outcome
+    ensures exact { result ≡ outcome_of_verdict verdict }
 {
     match verdict {
         Verdict::Go => Outcome::Go,
@@ -31,12 +31,14 @@ fn outcome_by_lines(
     reading: bool,
 ) -> Result<Outcome, NoMemory>
     ensures outcome_of_lines { IfOk result
-        (λ o. (said : Option Preconditions) × ConditionsAnswer if_match.now if_none_match.now said
+        (λ o. (said : Option Preconditions)
+        × IsConditionsReading if_match.now if_none_match.now said
         × (o ≡ option_map_or
-        (λ conditions. by_verdict (verdict_of conditions tag exists reading)) said Unreadable)) }
+        (λ conditions. outcome_of_verdict (verdict_of conditions tag exists reading)) said
+        Unreadable)) }
 {
     match read_conditions(alloc, if_match, if_none_match) {
-        Ok(conditions) => Ok(by_verdict(condition(&conditions, tag, exists, reading))),
+        Ok(conditions) => Ok(outcome_of_verdict(condition(&conditions, tag, exists, reading))),
         Err(ConditionFault::BadCondition) => Ok(Outcome::Unreadable),
         Err(ConditionFault::NoMemory) => Err(AllocError),
     }

@@ -1,6 +1,6 @@
 //! Who may do what (RFC 4825, section 5.7).
 ghost use Rattle.std.specs.Prelude.{◌≡◌};
-ghost use Rattle.request_checks.specs.Rights.{is_allowed, is_fixed_usage, is_user};
+ghost use Rattle.request_checks.specs.Rights.{is_allowed, is_fixed_usage, is_from_user};
 
 use crate::field_values::single_value;
 use doc_names::{Auid, Home};
@@ -22,7 +22,7 @@ pub fn is_allowed(writes: bool, auid: Auid, home: &Home, request: &Request) -> b
             if writes && is_fixed_usage(auid) {
                 return false;
             }
-            is_user(xui, request.fields.as_slice())
+            is_from_user(xui, request.fields.as_slice())
         }
     }
 }
@@ -33,9 +33,9 @@ fn is_fixed_usage(auid: Auid) -> bool
     matches!(auid, Auid::XcapCaps)
 }
 
-#[tactic(auto, unfolding(crate::specs::Rights::is_user), using(crate::proofs::Onlys::only_one, crate::proofs::Onlys::only_other))]
-fn is_user(xui: &Text, fields: &[Field]) -> bool
-    ensures exact { result ≡ is_user xui.now fields.now }
+#[tactic(auto, unfolding(crate::specs::Rights::is_from_user), using(crate::proofs::Onlys::only_one, crate::proofs::Onlys::only_other))]
+fn is_from_user(xui: &Text, fields: &[Field]) -> bool
+    ensures exact { result ≡ is_from_user xui.now fields.now }
 {
     match single_value(fields, b"x-xcap-user") {
         Some(user) => user == xui.as_str().as_bytes(),

@@ -2,8 +2,9 @@
 ghost use Rattle.std.specs.Prelude.{◌≡◌, decimal};
 ghost use Rattle.std.specs.List.{list_any};
 ghost use Rattle.std.specs.Str.{bytes_eq};
-ghost use Rattle.request_checks.specs.inner.Values.{value_of};
-ghost use Rattle.request_checks.specs.Verdicts.{is_own, is_strongly_own, if_match_holds};
+ghost use Rattle.request_checks.specs.inner.FieldViews.{field_value_view};
+ghost use Rattle.request_checks.specs.Verdicts.{matches_etag_weakly, matches_etag_strongly};
+ghost use Rattle.request_checks.specs.Verdicts.{if_match_holds};
 ghost use Rattle.request_checks.specs.Verdicts.{if_none_match_holds, verdict_of};
 
 use crate::condition_fields::ConditionField;
@@ -21,59 +22,59 @@ pub enum Verdict {
     Failed,
 }
 
-fn is_number(opaque: &[u8], number: u64) -> bool
+fn is_decimal_of(opaque: &[u8], number: u64) -> bool
     ensures exact { result ≡ bytes_eq opaque.now (decimal number) }
 {
     let mut buffer = Buffer::new();
     opaque == buffer.format(number).as_bytes()
 }
 
-#[tactic(auto, unfolding(crate::specs::Verdicts::is_own))]
-fn is_own(tag: &EntityTag, own: Option<u64>) -> bool
-    ensures exact { result ≡ is_own own tag.now }
+#[tactic(auto, unfolding(crate::specs::Verdicts::matches_etag_weakly))]
+fn matches_etag_weakly(tag: &EntityTag, own: Option<u64>) -> bool
+    ensures exact { result ≡ matches_etag_weakly own tag.now }
 {
     match own {
-        Some(number) => is_number(tag.opaque.as_slice(), number),
+        Some(number) => is_decimal_of(tag.opaque.as_slice(), number),
         None => false,
     }
 }
 
-#[tactic(auto, unfolding(crate::specs::Verdicts::is_strongly_own))]
-fn is_strongly_own(tag: &EntityTag, own: Option<u64>) -> bool
-    ensures exact { result ≡ is_strongly_own own tag.now }
+#[tactic(auto, unfolding(crate::specs::Verdicts::matches_etag_strongly))]
+fn matches_etag_strongly(tag: &EntityTag, own: Option<u64>) -> bool
+    ensures exact { result ≡ matches_etag_strongly own tag.now }
 {
-    !tag.weak && is_own(tag, own)
+    !tag.weak && matches_etag_weakly(tag, own)
 }
 
-fn any_strongly_own(tags: &[EntityTag], own: Option<u64>) -> bool
-    ensures exact { result ≡ list_any (is_strongly_own own) tags.now }
+fn any_matches_strongly(tags: &[EntityTag], own: Option<u64>) -> bool
+    ensures exact { result ≡ list_any (matches_etag_strongly own) tags.now }
 {
-    tags.iter().any(|tag| is_strongly_own(tag, own))
+    tags.iter().any(|tag| matches_etag_strongly(tag, own))
 }
 
-fn any_own(tags: &[EntityTag], own: Option<u64>) -> bool
-    ensures exact { result ≡ list_any (is_own own) tags.now }
+fn any_matches_weakly(tags: &[EntityTag], own: Option<u64>) -> bool
+    ensures exact { result ≡ list_any (matches_etag_weakly own) tags.now }
 {
-    tags.iter().any(|tag| is_own(tag, own))
+    tags.iter().any(|tag| matches_etag_weakly(tag, own))
 }
 
 fn if_match_holds(field: &ConditionField, own: Option<u64>, exists: bool) -> bool
-    ensures exact { result ≡ if_match_holds own exists (value_of field.now) }
+    ensures exact { result ≡ if_match_holds own exists (field_value_view field.now) }
 {
     match field {
         ConditionField::Missing => true,
         ConditionField::Star => exists,
-        ConditionField::Tags(tags) => any_strongly_own(tags, own),
+        ConditionField::Tags(tags) => any_matches_strongly(tags, own),
     }
 }
 
 fn if_none_match_holds(field: &ConditionField, own: Option<u64>, exists: bool) -> bool
-    ensures exact { result ≡ if_none_match_holds own exists (value_of field.now) }
+    ensures exact { result ≡ if_none_match_holds own exists (field_value_view field.now) }
 {
     match field {
         ConditionField::Missing => true,
         ConditionField::Star => !exists,
-        ConditionField::Tags(tags) => !any_own(tags, own),
+        ConditionField::Tags(tags) => !any_matches_weakly(tags, own),
     }
 }
 

@@ -2,8 +2,8 @@
 use Rattle.std.proofs.Common.{◌≡◌, ℕ, zero, suc, ◌+◌, ◌-◌, ◌<◌, ◌≤◌, nat_lt, min, Bool, true, false, ◌||◌, List, [], ◌∷◌, ◌++◌, length, take, drop, refl, sym, ap, ◌∙◌, arith, length-append, length-drop, append_assoc, append-nil, take-append-drop, true≢false}
 use Rattle.std.proofs.lemmas.Bool.Decides.{nat_tests}
 use Rattle.std.proofs.lemmas.List.{drop_all, length-take, length-take-le, take_all, take_at, take_min}
-use Rattle.server_peer.specs.inner.Ends.{KeepsFront}
-use Rattle.server_peer.specs.Rooms.{RepliesState}
+use Rattle.server_peer.specs.inner.ServerEnds.{KeepsReplyFront}
+use Rattle.server_peer.specs.BufferStates.{RepliesState}
 
 -- either there were more before, or there are now
 pub is_over_then : (room before piece : ℕ) (over : Bool) (n : ℕ) → over ≡ nat_lt room before → n ≡ min piece (room - before) → (over || nat_lt n piece) ≡ nat_lt room (before + piece)
@@ -22,7 +22,7 @@ pub how_many : (room : List ℕ) (held : ℕ) (replies : List ℕ) → held ≤ 
 how_many room held replies within front =
     sym (length-take-le held room within) ∙ ap length front ∙ length-take (length room) replies
 
-module _ (room replies piece mid behind : List ℕ) (held n : ℕ) (over now : Bool) (k : KeepsFront room held over replies) (count : n ≡ min (length piece) (length room - held)) (front : mid ≡ take n piece) (back : behind ≡ drop (held + n) room) where
+module _ (room replies piece mid behind : List ℕ) (held n : ℕ) (over now : Bool) (k : KeepsReplyFront room held over replies) (count : n ≡ min (length piece) (length room - held)) (front : mid ≡ take n piece) (back : behind ≡ drop (held + n) room) where
   many : held ≡ min (length room) (length replies)
   many = how_many room held replies k.within k.front
 
@@ -46,7 +46,7 @@ module _ (room replies piece mid behind : List ℕ) (held n : ℕ) (over now : B
       let is : n ≡ min (length room - length replies) (length piece) = omega (arith, count, many) in
       ap (λ (m : ℕ). take m piece) is ∙ take_min (length room - length replies) piece
 
-  pub keeps_more : now ≡ (over || nat_lt n (length piece)) → KeepsFront (take held room ++ (mid ++ behind)) (held + n) now (replies ++ piece)
+  pub keeps_more : now ≡ (over || nat_lt n (length piece)) → KeepsReplyFront (take held room ++ (mid ++ behind)) (held + n) now (replies ++ piece)
   keeps_more is = record {
     within = omega (arith, same_length, fits);
     front =
@@ -65,7 +65,7 @@ module _ (room replies piece mid behind : List ℕ) (held n : ℕ) (over now : B
 
 -- The first `held` bytes are kept. After them the front of others is kept in the rest of the
 -- buffer.
-module _ (room behind others : List ℕ) (held k : ℕ) (more over : Bool) (within : held ≤ length room) (size : length behind ≡ length room - held) (keeps : KeepsFront behind k over others) where
+module _ (room behind others : List ℕ) (held k : ℕ) (more over : Bool) (within : held ≤ length room) (size : length behind ≡ length room - held) (keeps : KeepsReplyFront behind k over others) where
   kept_length : length (take held room) ≡ held
   kept_length = length-take-le held room within
 

@@ -2,7 +2,7 @@
 use Rattle.std.proofs.Common.{◌≡◌, ℕ, ◌+◌, ◌≤◌, List, ◌++◌, length, take, drop, sym, ap, ◌∙◌, arith, length-append, length-drop}
 use Rattle.std.proofs.lemmas.List.{length-take, length-take-le, take-append-le, take-take, take_at}
 use Rattle.std.proofs.Math.Seq.{take-add}
-use Rattle.server_peer.specs.Rooms.{RepliesState, with_replies}
+use Rattle.server_peer.specs.BufferStates.{RepliesState, with_replies}
 
 -- the bytes given are still the front when others are appended
 pub still_front : (r : RepliesState) (given : ℕ) (more : List ℕ) → length r.bytes ≤ r.room → given ≤ length r.bytes → take given (with_replies r more).bytes ≡ take given r.bytes

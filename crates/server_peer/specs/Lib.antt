@@ -1,4 +1,4 @@
+pub mod BufferStates
 pub mod Peers
-pub mod Rooms
 pub mod ServedBytes
 pub mod inner

@@ -1,12 +1,13 @@
 -- A peer over a server in memory, as its callers see it. The project's own.
 use Rattle.std.specs.Prelude.{◌≡◌, ◌≢◌, ℕ, ◌-◌, ◌<◌, ◌⊎◌, min, true, false, List, [], ◌∷◌, ◌++◌}
 use Rattle.std.specs.Prelude.{length, take, drop, Result, Ok, Err, None, MatchResult}
-use Rattle.xcap_io.specs.Causes.{StreamState, inward_of, no_port}
-use Rattle.xcap_io.specs.Histories.{ConnectionHistory, no_history, with_end, with_given, with_next}
-use Rattle.xcap_io.specs.Histories.{with_taken}
-use Rattle.xcap_io.specs.Memory.{one_more}
-use Rattle.xcap_machine.specs.Servers.{ServerState}
-use Rattle.server_peer.specs.Rooms.{RepliesState, WrittenState}
+use Rattle.xcap_io.specs.StreamStates.{StreamState, input_state_of, no_port}
+use Rattle.xcap_io.specs.ConnectionHistories.{ConnectionHistory, no_history, with_connection_end}
+use Rattle.xcap_io.specs.ConnectionHistories.{with_read, with_next_connection}
+use Rattle.xcap_io.specs.ConnectionHistories.{with_write}
+use Rattle.xcap_io.specs.MemoryStreams.{count_plus_one}
+use Rattle.xcap_machine.specs.ServerStates.{ServerState}
+use Rattle.server_peer.specs.BufferStates.{RepliesState, WrittenState}
 use Rattle.server_peer.specs.ServedBytes.{AddsReplies}
 
 -- The server, the bytes written and replied on the current connection, the history of the
@@ -36,7 +37,7 @@ new_peer server room = record {
 -- As a stream it shows its traffic, but not what reads will give. `connect` never fails.
 abbrev pub peer_line : PeerOverServer → StreamState
 peer_line p = record {
-  inward = inward_of p.history.now;
+  inward = input_state_of p.history.now;
   taken = p.history.now.taken;
   read_faults = p.read_faults;
   write_faults = p.write_faults;
@@ -54,28 +55,29 @@ peer_line p = record {
 -- ---- writes
 
 -- there is a current connection, and its buffer for written bytes isn't full
-abbrev pub HasRoom : PeerOverServer → Type 0
-HasRoom p = (p.history.is_present ≡ true) × (length p.written.bytes < p.written.room)
+abbrev pub HasWriteRoom : PeerOverServer → Type 0
+HasWriteRoom p = (p.history.is_present ≡ true) × (length p.written.bytes < p.written.room)
 
 -- there is no current connection, or its buffer for written bytes is full
 abbrev pub IsFull : PeerOverServer → Type 0
 IsFull p = (p.history.is_present ≡ false) ⊎ (length p.written.bytes ≡ p.written.room)
 
 -- the peer after these bytes were written on the current connection
-abbrev pub with_written : PeerOverServer → List ℕ → PeerOverServer
-with_written p bytes =
+abbrev pub with_written_bytes : PeerOverServer → List ℕ → PeerOverServer
+with_written_bytes p bytes =
     record p {
       written = record p.written { bytes = p.written.bytes ++ bytes };
-      history = with_taken p.history bytes;
+      history = with_write p.history bytes;
     }
 
 -- A write takes the bytes that fit, and fails exactly where the buffer is full.
-abbrev pub PeerWrite : {E : Type 0} → PeerOverServer → PeerOverServer → List ℕ → Result ℕ E → Type 0
-PeerWrite old new piece (Ok n) =
-    HasRoom old × (n ≡ min (length piece) (old.written.room - length old.written.bytes))
-    × (new ≡ with_written old (take n piece))
-PeerWrite old new piece (Err e) =
-    IsFull old × (new ≡ record old { write_faults = one_more old.write_faults })
+abbrev pub WritesToPeer : {E : Type 0} → PeerOverServer → PeerOverServer → List ℕ → Result ℕ E
+    → Type 0
+WritesToPeer old new piece (Ok n) =
+    HasWriteRoom old × (n ≡ min (length piece) (old.written.room - length old.written.bytes))
+    × (new ≡ with_written_bytes old (take n piece))
+WritesToPeer old new piece (Err e) =
+    IsFull old × (new ≡ record old { write_faults = count_plus_one old.write_faults })
 
 -- ---- reads
 
@@ -94,30 +96,30 @@ pub record ServesWritten (old new : PeerOverServer) : Type 0 where
 
 -- Before a read gives anything, the server serves what was written since its last replies, if
 -- anything was.
-abbrev pub Settles : PeerOverServer → PeerOverServer → Type 0
-Settles old new =
+abbrev pub ServesPending : PeerOverServer → PeerOverServer → Type 0
+ServesPending old new =
     ((unserved_bytes old ≡ []) × (new ≡ old)) ⊎ ((unserved_bytes old ≢ []) × ServesWritten old new)
 
 -- the replies that no read has given yet
-abbrev pub unread : PeerOverServer → List ℕ
-unread p = drop (length p.history.now.given) p.replies.bytes
+abbrev pub unread_replies : PeerOverServer → List ℕ
+unread_replies p = drop (length p.history.now.given) p.replies.bytes
 
 -- the buffer for replies was read to its end, and more are due
-abbrev pub IsSpent : PeerOverServer → Type 0
-IsSpent p = (length p.history.now.given ≡ p.replies.room) × (p.replies.more ≡ true)
+abbrev pub IsReplyBufferSpent : PeerOverServer → Type 0
+IsReplyBufferSpent p = (length p.history.now.given ≡ p.replies.room) × (p.replies.more ≡ true)
 
 -- A read of at most `wanted` bytes gives the next bytes of the replies, and fails exactly where
 -- the buffer for replies was read to its end and more are due.
 abbrev pub GivesReplies : {E : Type 0} → PeerOverServer → PeerOverServer → ℕ → Result ℕ E → Type 0
 GivesReplies old new wanted (Ok n) =
-    ¬ (IsSpent old) × (n ≡ min wanted (length (unread old)))
-    × (new ≡ record old { history = with_given old.history (take n (unread old)) })
+    ¬ (IsReplyBufferSpent old) × (n ≡ min wanted (length (unread_replies old)))
+    × (new ≡ record old { history = with_read old.history (take n (unread_replies old)) })
 GivesReplies old new wanted (Err e) =
-    IsSpent old × (new ≡ record old { read_faults = one_more old.read_faults })
+    IsReplyBufferSpent old × (new ≡ record old { read_faults = count_plus_one old.read_faults })
 
-abbrev pub PeerRead : {E : Type 0} → PeerOverServer → PeerOverServer → ℕ → Result ℕ E → Type 0
-PeerRead old new wanted result =
-    (mid : PeerOverServer) × Settles old mid × GivesReplies mid new wanted result
+abbrev pub ReadsFromPeer : {E : Type 0} → PeerOverServer → PeerOverServer → ℕ → Result ℕ E → Type 0
+ReadsFromPeer old new wanted result =
+    (mid : PeerOverServer) × ServesPending old mid × GivesReplies mid new wanted result
 
 -- ---- connections
 
@@ -126,12 +128,12 @@ abbrev pub with_connection : PeerOverServer → List ℕ → PeerOverServer
 with_connection p address = record p {
   written = record p.written { bytes = []; served = 0 };
   replies = record p.replies { bytes = []; more = false };
-  history = with_next (with_end p.history);
+  history = with_next_connection (with_connection_end p.history);
   addresses = address ∷ p.addresses;
 }
 
 -- `connect` never fails
-abbrev pub PeerConnect : {E : Type 0} → PeerOverServer → PeerOverServer → Result (Unit {0}) E
+abbrev pub ConnectsPeer : {E : Type 0} → PeerOverServer → PeerOverServer → Result (Unit {0}) E
     → List ℕ → Type 0
-PeerConnect old new result address =
+ConnectsPeer old new result address =
     MatchResult result (λ _. new ≡ with_connection old address) (λ _. ⊥)

@@ -1,3 +1,3 @@
 -- What private functions and proofs use. No clause of a public call needs it.
-pub mod Ends
 pub mod ReplyBuffers
+pub mod ServerEnds

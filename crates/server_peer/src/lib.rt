@@ -1,8 +1,8 @@
 //! A peer whose connections lead to a server in memory.
 //! Promises upward that what is written on a connection is served at the first read after it, as
-//! the bytes of one connection of the server, and that its replies are then read (`PeerRead`,
-//! `ServesWritten`); a write and a read fail exactly where the buffers are full (`PeerWrite`,
-//! `IsSpent`).
+//! the bytes of one connection of the server, and that its replies are then read (`ReadsFromPeer`,
+//! `ServesWritten`); a write and a read fail exactly where the buffers are full (`WritesToPeer`,
+//! `IsReplyBufferSpent`).
 //! The model is the project's own; no standard defines it.
 //! An incomplete request is a 400 at the first read after it. Replies beyond the room are dropped,
 //! and the server doesn't learn of it.

@@ -1,18 +1,21 @@
 //! A peer over a server in memory.
 ghost use Rattle.std.specs.Prelude.{◌≡◌, ◌<◌, [], false, length, IfOk};
 ghost use Rattle.std.specs.Io.{ReadsAtMost};
-ghost use Rattle.xcap_io.specs.Causes.{OnlyReads, OnlyWrites};
-ghost use Rattle.xcap_io.specs.Connections.{ConnectsOnly};
+ghost use Rattle.xcap_io.specs.StreamStates.{OnlyReads, OnlyWrites};
+ghost use Rattle.xcap_io.specs.Connections.{OnlyConnects};
 ghost use Rattle.xcap_io.specs.StreamTraffic.{GivesReadBytes, TakesWrittenBytes};
-ghost use Rattle.xcap_io.specs.Streams.{WritesSome};
-ghost use Rattle.server_peer.specs.Peers.{GivesReplies, PeerConnect, PeerRead, PeerWrite, Settles};
+ghost use Rattle.xcap_io.specs.StreamWrites.{WritesSome};
+ghost use Rattle.server_peer.specs.Peers.{GivesReplies, ConnectsPeer, ReadsFromPeer, WritesToPeer};
+ghost use Rattle.server_peer.specs.Peers.{ServesPending};
 ghost use Rattle.server_peer.specs.Peers.{new_peer, peer_line};
 
 use crate::replies::Replies;
 use crate::written_bytes::WrittenBytes;
 use std::alloc::Global;
 use std::marker::Model;
-use xcap_io::{AddressHistory, Failed, Line, NoMemory, Peer, Sink, Source, TrafficLog, fault};
+use xcap_io::{
+    AddressHistory, Failed, Line, NoMemory, Peer, Sink, Source, TrafficLog, count_fault,
+};
 use xcap_server::Server;
 
 /// A peer whose connections lead to a server in memory. What was written on a connection since the
@@ -37,7 +40,7 @@ impl Model for ServerPeer {
     ghost use Rattle.std.specs.Prelude.{◌≡◌, ◌≤◌, length, take};
     ghost use Rattle.server_peer.specs.Peers.{PeerOverServer};
     ghost use Rattle.std.specs.Coded.{codes};
-    ghost use Rattle.xml_tree.specs.inner.Codes.{tree_code};
+    ghost use Rattle.xml_tree.specs.inner.TreeCodes.{tree_code};
     ghost use Rattle.doc_names.specs.contracts.doc_id.DocId as d;
     ghost use Rattle.edit_ops.specs.contracts.change.Change as c;
 
@@ -62,7 +65,7 @@ impl Model for ServerPeer {
 }
 
 // Buffers for the bytes written and for the replies, of `room` bytes each.
-fn rooms(alloc: Global, room: usize) -> Result<(WrittenBytes, Replies), NoMemory>
+fn new_buffers(alloc: Global, room: usize) -> Result<(WrittenBytes, Replies), NoMemory>
     ensures both_empty { IfOk result
         (λ both. (both.0 ≡ record { bytes = []; served = 0; room = room })
         × (both.1 ≡ record { bytes = []; more = false; room = room })) }
@@ -82,7 +85,7 @@ impl ServerPeer {
     pub fn new(alloc: Global, server: Server, room: usize) -> Result<ServerPeer, NoMemory>
         ensures ok { IfOk result (λ peer. peer ≡ new_peer server room) }
     {
-        let Ok((written, replies)) = rooms(alloc, room) else {
+        let Ok((written, replies)) = new_buffers(alloc, room) else {
             // Dropped by a call, whose proof is made once, rather than at each exit.
             drop(server);
             return Err(NoMemory);
@@ -109,8 +112,8 @@ impl ServerPeer {
     }
 
     // Serves what was written since the server's last replies, if anything was.
-    fn settle(&mut self)
-        ensures settles_written { Settles self.old self.new }
+    fn serve_pending(&mut self)
+        ensures settles_written { ServesPending self.old self.new }
     {
         let asked = self.written.unserved_bytes();
         if asked.is_empty() {
@@ -121,7 +124,7 @@ impl ServerPeer {
     }
 
     // Gives the next bytes of the replies.
-    fn give(&mut self, buf: &mut [u8]) -> Result<usize, Failed>
+    fn give_replies(&mut self, buf: &mut [u8]) -> Result<usize, Failed>
         requires { 0 < length buf.old }
         ensures in_bounds { ReadsAtMost result buf.new }
         ensures all_or_prefix { GivesReadBytes (peer_line self.old).inward
@@ -130,9 +133,9 @@ impl ServerPeer {
         ensures as_memory_form { GivesReplies self.old self.new (length buf.old) result }
     {
         if self.replies.is_spent(self.given) {
-            return Err(fault(&mut self.read_faults));
+            return Err(count_fault(&mut self.read_faults));
         }
-        let left = self.replies.behind(self.given);
+        let left = self.replies.replies_after(self.given);
         let count = buf.len().min(left.len());
         buf[..count].copy_from_slice(&left[..count]);
         self.given += count;
@@ -152,10 +155,10 @@ impl Source for ServerPeer {
         ensures appends_read { GivesReadBytes (peer_line self.old).inward
             (peer_line self.new).inward result buf.new }
         ensures only_reads { OnlyReads (peer_line self.old) (peer_line self.new) result }
-        ensures as_memory_form { PeerRead self.old self.new (length buf.old) result }
+        ensures as_memory_form { ReadsFromPeer self.old self.new (length buf.old) result }
     {
-        self.settle();
-        self.give(buf)
+        self.serve_pending();
+        self.give_replies(buf)
     }
 }
 
@@ -166,14 +169,14 @@ impl Sink for ServerPeer {
         ensures appends_written { TakesWrittenBytes (peer_line self.old).taken
             (peer_line self.new).taken result piece.now }
         ensures only_writes { OnlyWrites (peer_line self.old) (peer_line self.new) result }
-        ensures as_memory_form { PeerWrite self.old self.new piece.now result }
+        ensures as_memory_form { WritesToPeer self.old self.new piece.now result }
     {
         if !self.is_begun {
-            return Err(fault(&mut self.write_faults));
+            return Err(count_fault(&mut self.write_faults));
         }
         let count = self.written.add(piece);
         if count == 0 {
-            return Err(fault(&mut self.write_faults));
+            return Err(count_fault(&mut self.write_faults));
         }
         self.log.record_write(&piece[..count]);
         Ok(count)
@@ -182,16 +185,16 @@ impl Sink for ServerPeer {
 
 impl Peer for ServerPeer {
     fn connect(&mut self, address: &str) -> Result<(), Failed>
-        ensures only_connects { ConnectsOnly (peer_line self.old)
+        ensures only_connects { OnlyConnects (peer_line self.old)
             (peer_line self.new) result address.now }
-        ensures never_fails { PeerConnect self.old self.new result address.now }
+        ensures never_fails { ConnectsPeer self.old self.new result address.now }
     {
         self.written.clear();
         self.replies.clear();
         self.given = 0;
         self.is_begun = true;
-        self.log.end();
-        self.log.begin();
+        self.log.record_end();
+        self.log.record_begin();
         self.addresses.add(address.as_bytes());
         Ok(())
     }

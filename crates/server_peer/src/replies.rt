@@ -18,7 +18,7 @@ pub(crate) struct Replies {
 
 impl Model for Replies {
     ghost use Rattle.std.specs.Prelude.{◌≡◌, ◌≤◌, true, length, take};
-    ghost use Rattle.server_peer.specs.Rooms.{RepliesState};
+    ghost use Rattle.server_peer.specs.BufferStates.{RepliesState};
 
     ghost Value = { RepliesState };
 
@@ -56,7 +56,7 @@ impl Replies {
     }
 
     // The bytes after the first `given`.
-    pub(crate) fn behind(&self, given: usize) -> &[u8]
+    pub(crate) fn replies_after(&self, given: usize) -> &[u8]
         requires inside { given ≤ length self.now.bytes }
         ensures exact { result.now ≡ drop given self.now.bytes }
         ensures fits_u64 { length self.now.bytes < 2 ^ 64 }

@@ -1,5 +1,5 @@
 // A server serves some bytes as one connection.
-ghost use Rattle.server_peer.specs.inner.ReplyBuffers.{FillsRoom};
+ghost use Rattle.server_peer.specs.inner.ReplyBuffers.{FillsReplyBuffer};
 
 use crate::server_end::ServerEnd;
 use std::alloc::Global;
@@ -16,7 +16,7 @@ pub(crate) struct Replied {
 // Serves these bytes as one connection. The front of the replies is kept, as far as it fits into
 // `room`. No watcher is notified.
 pub(crate) fn reply_to(alloc: Global, server: &mut Server, asked: &[u8], room: &mut [u8]) -> Replied
-    ensures replies_to_bytes { FillsRoom server.old server.new asked.now room.old
+    ensures replies_to_bytes { FillsReplyBuffer server.old server.new asked.now room.old
         (record { room = room.new; held = result.held; is_over = result.is_over }) }
 {
     server.store().represents_valid_state();

@@ -1,7 +1,7 @@
 // The server's end of a connection in memory.
 ghost use Rattle.std.specs.Prelude.{◌≡◌, ◌≤◌, length, drop};
-ghost use Rattle.xcap_io.specs.Histories.{no_traffic};
-ghost use Rattle.server_peer.specs.inner.Ends.{KeepsFront, end_state};
+ghost use Rattle.xcap_io.specs.ConnectionHistories.{no_traffic};
+ghost use Rattle.server_peer.specs.inner.ServerEnds.{KeepsReplyFront, server_end_state};
 
 use xcap_io::{Failed, Line, Sink, Source, TrafficLog};
 
@@ -16,14 +16,14 @@ pub(crate) struct ServerEnd<'a> {
     pub(crate) is_over: bool,
     log: TrafficLog,
     ghost inside: { given ≤ length asked.now },
-    ghost keeps: { KeepsFront room.now held is_over log.history.now.taken },
+    ghost keeps: { KeepsReplyFront room.now held is_over log.history.now.taken },
 }
 
 impl<'a> ServerEnd<'a> {
     // The end of a new connection on which these bytes will come.
     pub(crate) fn new(asked: &'a [u8], room: &'a mut [u8]) -> ServerEnd<'a>
         ensures nothing_passed { ⟦<ServerEnd<'a> as Line>⟧.state result
-            ≡ end_state asked.now no_traffic room.entry.ghost_name }
+            ≡ server_end_state asked.now no_traffic room.entry.ghost_name }
     {
         ServerEnd {
             asked,
@@ -37,7 +37,8 @@ impl<'a> ServerEnd<'a> {
 }
 
 impl Line for ServerEnd<'_> {
-    ghost state = { λ e. end_state (drop e.given e.asked.now) e.log.history.now e.room.ghost_name };
+    ghost state = { λ e. server_end_state (drop e.given e.asked.now)
+        e.log.history.now e.room.ghost_name };
 }
 
 impl Source for ServerEnd<'_> {

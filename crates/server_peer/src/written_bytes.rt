@@ -16,7 +16,7 @@ pub(crate) struct WrittenBytes {
 
 impl Model for WrittenBytes {
     ghost use Rattle.std.specs.Prelude.{◌≤◌, length, take};
-    ghost use Rattle.server_peer.specs.Rooms.{WrittenState};
+    ghost use Rattle.server_peer.specs.BufferStates.{WrittenState};
 
     ghost Value = { WrittenState };
 

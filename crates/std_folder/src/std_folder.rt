@@ -42,7 +42,7 @@ fn make_file(rt: &HostRuntime, path: &str) -> io::Result<File> {
         .open(rt, path)
 }
 
-fn fault_of<T: Drop>(done: io::Result<T>) -> Result<T, FolderFault> {
+fn as_folder_result<T: Drop>(done: io::Result<T>) -> Result<T, FolderFault> {
     match done {
         Ok(value) => Ok(value),
         Err(_) => Err(FolderFault),
@@ -51,27 +51,27 @@ fn fault_of<T: Drop>(done: io::Result<T>) -> Result<T, FolderFault> {
 
 impl FolderCalls for StdFolder<'_> {
     fn write(&mut self, bytes: &[u8]) -> Result<(), FolderFault> {
-        fault_of(self.file.write_all_at(bytes, self.len))?;
+        as_folder_result(self.file.write_all_at(bytes, self.len))?;
         self.len = self.len.saturating_add(bytes.len() as u64);
         Ok(())
     }
 
     fn sync(&mut self) -> Result<(), FolderFault> {
-        fault_of(self.file.sync_data())?;
+        as_folder_result(self.file.sync_data())?;
         self.synced = self.len;
         Ok(())
     }
 
     fn cut(&mut self) -> Result<(), FolderFault> {
-        fault_of(self.file.set_len(self.synced))?;
+        as_folder_result(self.file.set_len(self.synced))?;
         self.len = self.synced;
         Ok(())
     }
 
     fn begin_draft(&mut self) -> Result<[u8; 8], FolderFault> {
         self.draft = None;
-        let draft = fault_of(make_file(self.rt, self.draft_path.as_str()))?;
-        let mark = fault_of(RandomState::new(self.rt))?.hash_one(&0u8);
+        let draft = as_folder_result(make_file(self.rt, self.draft_path.as_str()))?;
+        let mark = as_folder_result(RandomState::new(self.rt))?.hash_one(&0u8);
         self.draft = Some(draft);
         self.draft_len = 0;
         Ok(mark.to_be_bytes())
@@ -81,7 +81,7 @@ impl FolderCalls for StdFolder<'_> {
         let Some(draft) = &self.draft else {
             return Err(FolderFault);
         };
-        fault_of(draft.write_all_at(bytes, self.draft_len))?;
+        as_folder_result(draft.write_all_at(bytes, self.draft_len))?;
         self.draft_len = self.draft_len.saturating_add(bytes.len() as u64);
         Ok(())
     }
@@ -90,14 +90,14 @@ impl FolderCalls for StdFolder<'_> {
         let Some(draft) = &self.draft else {
             return Err(FolderFault);
         };
-        fault_of(draft.sync_all())
+        as_folder_result(draft.sync_all())
     }
 
     fn rename_draft(&mut self) -> Result<(), FolderFault> {
         let Some(draft) = self.draft.take() else {
             return Err(FolderFault);
         };
-        fault_of(fs::rename(self.rt, self.draft_path.as_str(), self.path.as_str()))?;
+        as_folder_result(fs::rename(self.rt, self.draft_path.as_str(), self.path.as_str()))?;
         self.file = draft;
         self.len = self.draft_len;
         self.synced = self.draft_len;
@@ -105,6 +105,6 @@ impl FolderCalls for StdFolder<'_> {
     }
 
     fn sync_folder(&mut self) -> Result<(), FolderFault> {
-        fault_of(self.folder.sync_all())
+        as_folder_result(self.folder.sync_all())
     }
 }

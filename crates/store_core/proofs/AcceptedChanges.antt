@@ -9,22 +9,22 @@ use Rattle.std.proofs.lemmas.List.Sums.{sum_by-append}
 use Rattle.std.specs.Option.{option_or as or_else}
 use Rattle.xml_tree.specs.Tree.{Tree}
 use Rattle.usage_docs.specs.Services.{document_len}
-use Rattle.usage_docs.specs.declared.keys.Clash.{Clash}
+use Rattle.usage_docs.specs.declared.key_repeats.Clash.{Clash}
 use Rattle.doc_names.specs.declared.usages.Usage.{Usage}
-use Rattle.doc_names.specs.Equality.{same_id}
+use Rattle.doc_names.specs.NameEquality.{same_id}
 use Rattle.doc_names.specs.declared.doc_id.DocId.{DocId}
-use Rattle.edit_ops.specs.Changes.{Fits, edited}
+use Rattle.edit_ops.specs.Changes.{FitsTree, edited}
 use Rattle.edit_ops.specs.declared.change.Change.{Change}
 use Rattle.edit_ops.specs.Notes.{Note, note_of}
 use Rattle.store_core.specs.declared.refusal.StoreRefusal.{StoreRefusal}
 use Rattle.store_core.specs.declared.refusal.StoreRefusal.TheVariants.{ServiceTaken, TooLarge, TooMany, StoreFull}
 use Rattle.store_core.specs.State.{Document, State, created, document_after}
-use Rattle.store_core.specs.Contents.{StoredDocument, Represents, stored_of, StoreContents as Content, stock_of as content_of}
-use Rattle.store_core.specs.ValidStates.{AreDistinct, IsSoundFor, IsValidState, addresses, addresses_in}
+use Rattle.store_core.specs.Contents.{StoredDocument, Represents, stored_document, StoreContents as Content, contents_of as content_of}
+use Rattle.store_core.specs.ValidStates.{AreDistinct, IsSoundDocumentFor, IsValidState, all_addresses, document_addresses}
 use Rattle.doc_names.specs.Usages.{usage_of}
-use Rattle.store_core.specs.Queries.{Asks, AsksAct, MayBeFor}
-use Rattle.store_core.specs.DocumentChanges.{Act, Makes, Edits, Removes, act_of, after_act, refusal_of, refusal_of_number, refusal_of_tree, refusal_or, change_result, content_after, document_in, stored_name, note_for, only_if, other_addresses, other_lengths, first_taken_address, without_document}
-use Rattle.store_core.specs.AcceptableChanges.{Suits, SuitsAct}
+use Rattle.store_core.specs.ChangePreconditions.{MayRequest, MayRequestByKind, MayBeDocumentFor}
+use Rattle.store_core.specs.DocumentChanges.{ChangeKind, Makes, Edits, Removes, change_kind, state_after_by_kind, refusal_of, refusal_of_number, refusal_of_tree, refusal_or, change_result, contents_after, find_document, stored_id, note_for, refusal_if, other_addresses, total_len_of_others, first_taken_address, without_document}
+use Rattle.store_core.specs.AcceptableChanges.{IsAcceptable, IsAcceptableByKind}
 use Rattle.store_core.proofs.DistinctItems.{apart-cut, none-filtered, one-exchanged, one-filtered}
 use Rattle.store_core.proofs.KeptAfter.{round}
 use Rattle.doc_names.proofs.SameIds.{id_exact}
@@ -37,7 +37,7 @@ both-none : {A : Type 0} (a b : Option A) → or_else a b ≡ None → (a ≡ No
 both-none None b h = (refl, h)
 both-none (Some a) b h = cc
 
-not-so : (b : Bool) (r : StoreRefusal) → only_if b r ≡ None → b ≡ false
+not-so : (b : Bool) (r : StoreRefusal) → refusal_if b r ≡ None → b ≡ false
 not-so true r h = cc
 not-so false r h = refl
 
@@ -48,29 +48,29 @@ fewer : (n : ℕ) → (true && nat_le 1000 n) ≡ false → n + 1 ≤ 1000
 fewer n h = grind (arith, nat_tests)
 
 pub record Passes (c : Content) (id : DocId) (is_new : Bool) (t : Tree) : Type 0 where
-  pub services : AllByRecursion (λ uri. AllByRecursion (λ o. uri ≢ o) (other_addresses c id)) (addresses_in id.auid t)
+  pub services : AllByRecursion (λ uri. AllByRecursion (λ o. uri ≢ o) (other_addresses c id)) (document_addresses id.auid t)
   pub short : document_len t ≤ 262144
   pub few : (is_new && nat_le 1000 (length c.documents)) ≡ false
-  pub room : other_lengths c id + document_len t ≤ 33554432
+  pub room : total_len_of_others c id + document_len t ≤ 33554432
 
 pub passes : (c : Content) (id : DocId) (is_new : Bool) (t : Tree) → refusal_of_tree c id is_new t ≡ None → Passes c id is_new t
 passes c id is_new t h =
     let told : Clash → StoreRefusal = λ clash. ServiceTaken clash in
-    let first : Option StoreRefusal = option_map told (first_taken_address (other_addresses c id) (addresses_in id.auid t)) in
-    let second : Option StoreRefusal = only_if (nat_lt 262144 (document_len t)) (TooLarge (min (document_len t) 18446744073709551615)) in
-    let third : Option StoreRefusal = only_if (is_new && nat_le 1000 (length c.documents)) TooMany in
-    let fourth : Option StoreRefusal = only_if (nat_lt 33554432 (other_lengths c id + document_len t)) (StoreFull (other_lengths c id + document_len t)) in
+    let first : Option StoreRefusal = option_map told (first_taken_address (other_addresses c id) (document_addresses id.auid t)) in
+    let second : Option StoreRefusal = refusal_if (nat_lt 262144 (document_len t)) (TooLarge (min (document_len t) 18446744073709551615)) in
+    let third : Option StoreRefusal = refusal_if (is_new && nat_le 1000 (length c.documents)) TooMany in
+    let fourth : Option StoreRefusal = refusal_if (nat_lt 33554432 (total_len_of_others c id + document_len t)) (StoreFull (total_len_of_others c id + document_len t)) in
     let a = both-none first (or_else second (or_else third fourth)) h in
     let b = both-none second (or_else third fourth) a.1 in
     let d = both-none third fourth b.1 in
     record {
-      services = none-first_taken_address (other_addresses c id) (addresses_in id.auid t) (none-mapped told (first_taken_address (other_addresses c id) (addresses_in id.auid t)) a.0);
+      services = none-first_taken_address (other_addresses c id) (document_addresses id.auid t) (none-mapped told (first_taken_address (other_addresses c id) (document_addresses id.auid t)) a.0);
       short = not-more 262144 (document_len t) (not-so (nat_lt 262144 (document_len t)) (TooLarge (min (document_len t) 18446744073709551615)) b.0);
       few = not-so (is_new && nat_le 1000 (length c.documents)) TooMany d.0;
-      room = not-more 33554432 (other_lengths c id + document_len t) (not-so (nat_lt 33554432 (other_lengths c id + document_len t)) (StoreFull (other_lengths c id + document_len t)) d.1);
+      room = not-more 33554432 (total_len_of_others c id + document_len t) (not-so (nat_lt 33554432 (total_len_of_others c id + document_len t)) (StoreFull (total_len_of_others c id + document_len t)) d.1);
     }
 
-sound-of : (usage : Option Usage) (t : Tree) → MayBeFor usage t → document_len t ≤ 262144 → IsSoundFor usage t
+sound-of : (usage : Option Usage) (t : Tree) → MayBeDocumentFor usage t → document_len t ≤ 262144 → IsSoundDocumentFor usage t
 sound-of None t h s = absurd h
 sound-of (Some usage) t h s = record { proper = h.proper; low = h.low; faultless = h.faultless; short = s }
 
@@ -108,7 +108,7 @@ sum-mapped f h (x ∷ xs) = omega (arith, sum-first f (h x) (map h xs), sum-firs
 -- ---- the other documents in contents that represent a state
 
 abbrev pub uris_of : Document → List (List ℕ)
-uris_of d = addresses_in d.id.auid d.now.tree
+uris_of d = document_addresses d.id.auid d.now.tree
 
 abbrev pub length_of : Document → ℕ
 length_of d = document_len d.now.tree
@@ -116,85 +116,85 @@ length_of d = document_len d.now.tree
 abbrev pub rest : State → DocId → List Document
 rest m id = filter (λ d. not (same_id id d.id)) m.documents
 
-rest-held : (m : State) (id : DocId) → without_document stored_name (map stored_of m.documents) id ≡ map stored_of (rest m id)
-rest-held m id = sym (map-filtered stored_of (λ (d : Document). not (same_id id d.id)) (λ (h : StoredDocument). not (same_id id h.id)) (λ d. refl) m.documents)
+rest-held : (m : State) (id : DocId) → without_document stored_id (map stored_document m.documents) id ≡ map stored_document (rest m id)
+rest-held m id = sym (map-filtered stored_document (λ (d : Document). not (same_id id d.id)) (λ (h : StoredDocument). not (same_id id h.id)) (λ d. refl) m.documents)
 
-pub rest-addresses : (m : State) (id : DocId) → other_addresses (content_of m) id ≡ addresses (rest m id)
-rest-addresses m id =
-    let of_held : StoredDocument → List (List ℕ) = λ h. addresses_in h.id.auid h.tree in
-    ap (flat_map of_held) (rest-held m id) ∙ flat_map-map of_held stored_of (rest m id)
+pub rest-all_addresses : (m : State) (id : DocId) → other_addresses (content_of m) id ≡ all_addresses (rest m id)
+rest-all_addresses m id =
+    let of_held : StoredDocument → List (List ℕ) = λ h. document_addresses h.id.auid h.tree in
+    ap (flat_map of_held) (rest-held m id) ∙ flat_map-map of_held stored_document (rest m id)
 
-pub rest-lengths : (m : State) (id : DocId) → other_lengths (content_of m) id ≡ sum_by length_of (rest m id)
+pub rest-lengths : (m : State) (id : DocId) → total_len_of_others (content_of m) id ≡ sum_by length_of (rest m id)
 rest-lengths m id =
     let of_held : StoredDocument → ℕ = λ h. document_len h.tree in
-    ap (sum_by of_held) (rest-held m id) ∙ sum-mapped of_held stored_of (rest m id)
+    ap (sum_by of_held) (rest-held m id) ∙ sum-mapped of_held stored_document (rest m id)
 
 -- ---- each kind of change
 
-pub record Suited (m : State) (id : DocId) (change : Change) (act : Act) : Type 0 where
-  suits : SuitsAct m id change act
-  services : AreDistinct (addresses (after_act m id change act).documents)
-  few : length (after_act m id change act).documents ≤ 1000
-  room : sum_by (λ d. document_len d.now.tree) (after_act m id change act).documents ≤ 33554432
+pub record Suited (m : State) (id : DocId) (change : Change) (act : ChangeKind) : Type 0 where
+  suits : IsAcceptableByKind m id change act
+  services : AreDistinct (all_addresses (state_after_by_kind m id change act).documents)
+  few : length (state_after_by_kind m id change act).documents ≤ 1000
+  room : sum_by (λ d. document_len d.now.tree) (state_after_by_kind m id change act).documents ≤ 33554432
 
-few-made : (m : State) (d : Document) → length (map stored_of m.documents) + 1 ≤ 1000 → length (m.documents ++ d ∷ []) ≤ 1000
-few-made m d h = omega (arith, h, length-map m.documents stored_of, length-append m.documents (d ∷ []))
+few-made : (m : State) (d : Document) → length (map stored_document m.documents) + 1 ≤ 1000 → length (m.documents ++ d ∷ []) ≤ 1000
+few-made m d h = omega (arith, h, length-map m.documents stored_document, length-append m.documents (d ∷ []))
 
 room-made : (ds : List Document) (d : Document) (n : ℕ) → n ≡ sum_by length_of ds → n + length_of d ≤ 33554432 → sum_by length_of (ds ++ d ∷ []) ≤ 33554432
 room-made ds d n e h = omega (arith, e, h, sum_by-append length_of ds (d ∷ []), sum-first length_of d [])
 
-suited-made : (m : State) (id : DocId) (change : Change) (root : Tree) → IsValidState m → AsksAct (content_of m) id change (Makes root) → refusal_of_tree (content_of m) id true root ≡ None → Suited m id change (Makes root)
+suited-made : (m : State) (id : DocId) (change : Change) (root : Tree) → IsValidState m → MayRequestByKind (content_of m) id change (Makes root) → refusal_of_tree (content_of m) id true root ≡ None → Suited m id change (Makes root)
 suited-made m id change root k a h =
     let p = passes (content_of m) id true root h in
     let new = created id m.next root in
     let missing : find (λ (e : Document). same_id id e.id) m.documents ≡ None =
-    none-mapped stored_of (find (λ (e : Document). same_id id e.id) m.documents) (sym (find-map stored_of (λ (h : StoredDocument). same_id id h.id) m.documents) ∙ a.0) in
+    none-mapped stored_document (find (λ (e : Document). same_id id e.id) m.documents) (sym (find-map stored_document (λ (h : StoredDocument). same_id id h.id) m.documents) ∙ a.0) in
     let all : rest m id ≡ m.documents = none-filtered (λ (e : Document). same_id id e.id) m.documents (not_found_refusal (λ (e : Document). same_id id e.id) m.documents missing) in
-    let others : other_addresses (content_of m) id ≡ addresses m.documents ++ [] = rest-addresses m id ∙ ap (λ (ds : List Document). addresses ds) all ∙ sym (append-nil (addresses m.documents)) in
-    let own = addresses_in id.auid root in
+    let others : other_addresses (content_of m) id ≡ all_addresses m.documents ++ [] = rest-all_addresses m id ∙ ap (λ (ds : List Document). all_addresses ds) all ∙ sym (append-nil (all_addresses m.documents)) in
+    let own = document_addresses id.auid root in
     record {
       suits = (missing, a.1, a.2, sound-of (usage_of id.auid) root a.3 p.short);
       services =
           subst (λ (xs : List (List ℕ)). AreDistinct xs) (sym (flat_map-append uris_of m.documents (new ∷ [])))
-          (apart-mix (addresses m.documents) own [] (subst (λ (xs : List (List ℕ)). AreDistinct xs) (sym (append-nil (addresses m.documents))) k.services) (own-apart id.auid root a.3)
+          (apart-mix (all_addresses m.documents) own [] (subst (λ (xs : List (List ℕ)). AreDistinct xs) (sym (append-nil (all_addresses m.documents))) k.services) (own-apart id.auid root a.3)
           (subst (λ (xs : List (List ℕ)). AllByRecursion (λ uri. AllByRecursion (λ o. uri ≢ o) xs) own) others p.services));
-      few = few-made m new (fewer (length (map stored_of m.documents)) p.few);
-      room = room-made m.documents new (other_lengths (content_of m) id) (rest-lengths m id ∙ ap (λ (ds : List Document). sum_by length_of ds) all) p.room;
+      few = few-made m new (fewer (length (map stored_document m.documents)) p.few);
+      room = room-made m.documents new (total_len_of_others (content_of m) id) (rest-lengths m id ∙ ap (λ (ds : List Document). sum_by length_of ds) all) p.room;
     }
 
 suited-edited : (m : State) (id : DocId) (change : Change) → IsValidState m → (o : Option Document) → find (λ e. same_id id e.id) m.documents ≡ o
-    → IsSomeAnd (option_map stored_of o) (λ h. Fits h.tree change × MayBeFor (usage_of h.id.auid) (edited h.tree change)) → refusal_of (content_of m) id change (option_map stored_of o) Edits ≡ None → Suited m id change Edits
+    → IsSomeAnd (option_map stored_document o) (λ h. FitsTree h.tree change × MayBeDocumentFor (usage_of h.id.auid) (edited h.tree change)) → refusal_of (content_of m) id change (option_map stored_document o) Edits ≡ None → Suited m id change Edits
 suited-edited m id change k None e a h = absurd a
 suited-edited m id change k (Some d) e a h =
     let r = round m id d k e in
     let t = edited d.now.tree change in
     let p = passes (content_of m) id false t (both-none (refusal_of_tree (content_of m) id false t) (refusal_of_number (content_of m)) h).0 in
     let update_entry : Document → Document = λ e. document_after m.next e (note_of e.now.tag m.next e.now.tree change) in
-    let docs : (after_act m id change Edits).documents ≡ r.before ++ update_entry d ∷ r.behind =
+    let docs : (state_after_by_kind m id change Edits).documents ≡ r.before ++ update_entry d ∷ r.behind =
     ap (λ (ds : List Document). map (λ e. cond (same_id id e.id) (update_entry e) e) ds) r.parts
     ∙ one-exchanged (λ (e : Document). same_id id e.id) update_entry r.before r.behind d r.none-before r.passes r.none-behind in
     let others : rest m id ≡ r.before ++ r.behind =
     ap (λ (ds : List Document). filter (λ e. not (same_id id e.id)) ds) r.parts
     ∙ one-filtered (λ (e : Document). same_id id e.id) r.before r.behind d r.none-before r.passes r.none-behind in
     let now : AreDistinct (flat_map uris_of r.before ++ (uris_of d ++ flat_map uris_of r.behind)) =
-    subst (λ (xs : List (List ℕ)). AreDistinct xs) (ap (λ (ds : List Document). addresses ds) r.parts ∙ flat_map-append uris_of r.before (d ∷ r.behind)) k.services in
+    subst (λ (xs : List (List ℕ)). AreDistinct xs) (ap (λ (ds : List Document). all_addresses ds) r.parts ∙ flat_map-append uris_of r.before (d ∷ r.behind)) k.services in
     let same : id ≡ d.id = id_exact id d.id r.passes in
-    let own = addresses_in d.id.auid t in
+    let own = document_addresses d.id.auid t in
     let apart : AllByRecursion (λ uri. AllByRecursion (λ o. uri ≢ o) (flat_map uris_of r.before ++ flat_map uris_of r.behind)) own =
     subst (λ (xs : List (List ℕ)). AllByRecursion (λ uri. AllByRecursion (λ o. uri ≢ o) xs) own)
-    (rest-addresses m id ∙ ap (λ (ds : List Document). addresses ds) others ∙ flat_map-append uris_of r.before r.behind)
-    (subst (λ (i : DocId). AllByRecursion (λ uri. AllByRecursion (λ o. uri ≢ o) (other_addresses (content_of m) id)) (addresses_in i.auid t)) same p.services) in
+    (rest-all_addresses m id ∙ ap (λ (ds : List Document). all_addresses ds) others ∙ flat_map-append uris_of r.before r.behind)
+    (subst (λ (i : DocId). AllByRecursion (λ uri. AllByRecursion (λ o. uri ≢ o) (other_addresses (content_of m) id)) (document_addresses i.auid t)) same p.services) in
     record {
-      suits = subst (λ (found : Option Document). IsSomeAnd found (λ d. Fits d.now.tree change × IsSoundFor (usage_of d.id.auid) (edited d.now.tree change))) (sym e) (a.0, sound-of (usage_of d.id.auid) t a.1 p.short);
+      suits = subst (λ (found : Option Document). IsSomeAnd found (λ d. FitsTree d.now.tree change × IsSoundDocumentFor (usage_of d.id.auid) (edited d.now.tree change))) (sym e) (a.0, sound-of (usage_of d.id.auid) t a.1 p.short);
       services =
-          subst (λ (xs : List (List ℕ)). AreDistinct xs) (sym (ap (λ (ds : List Document). addresses ds) docs ∙ flat_map-append uris_of r.before (update_entry d ∷ r.behind)))
+          subst (λ (xs : List (List ℕ)). AreDistinct xs) (sym (ap (λ (ds : List Document). all_addresses ds) docs ∙ flat_map-append uris_of r.before (update_entry d ∷ r.behind)))
           (apart-mix (flat_map uris_of r.before) own (flat_map uris_of r.behind) (apart-cut (flat_map uris_of r.before) (uris_of d) (flat_map uris_of r.behind) now) (own-apart d.id.auid t a.1) apart);
       few = omega (arith, k.few, length-map m.documents (λ (e : Document). cond (same_id id e.id) (update_entry e) e));
       room =
           omega (arith, p.room, rest-lengths m id, ap (λ (ds : List Document). sum_by length_of ds) others, ap (λ (ds : List Document). sum_by length_of ds) docs, sum-put length_of r.before (update_entry d) r.behind);
     }
 
-suited-removed : (m : State) (id : DocId) (change : Change) → IsValidState m → (o : Option Document) → find (λ e. same_id id e.id) m.documents ≡ o → IsSome (option_map stored_of o) → Suited m id change Removes
+suited-removed : (m : State) (id : DocId) (change : Change) → IsValidState m → (o : Option Document) → find (λ e. same_id id e.id) m.documents ≡ o → IsSome (option_map stored_document o) → Suited m id change Removes
 suited-removed m id change k None e a = cc
 suited-removed m id change k (Some d) e a =
     let r = round m id d k e in
@@ -202,11 +202,11 @@ suited-removed m id change k (Some d) e a =
     ap (λ (ds : List Document). filter (λ e. not (same_id id e.id)) ds) r.parts
     ∙ one-filtered (λ (e : Document). same_id id e.id) r.before r.behind d r.none-before r.passes r.none-behind in
     let now : AreDistinct (flat_map uris_of r.before ++ (uris_of d ++ flat_map uris_of r.behind)) =
-    subst (λ (xs : List (List ℕ)). AreDistinct xs) (ap (λ (ds : List Document). addresses ds) r.parts ∙ flat_map-append uris_of r.before (d ∷ r.behind)) k.services in
+    subst (λ (xs : List (List ℕ)). AreDistinct xs) (ap (λ (ds : List Document). all_addresses ds) r.parts ∙ flat_map-append uris_of r.before (d ∷ r.behind)) k.services in
     record {
       suits = subst (λ (found : Option Document). IsSome found) (sym e) refl;
       services =
-          subst (λ (xs : List (List ℕ)). AreDistinct xs) (sym (ap (λ (ds : List Document). addresses ds) others ∙ flat_map-append uris_of r.before r.behind))
+          subst (λ (xs : List (List ℕ)). AreDistinct xs) (sym (ap (λ (ds : List Document). all_addresses ds) others ∙ flat_map-append uris_of r.before r.behind))
           (apart-cut (flat_map uris_of r.before) (uris_of d) (flat_map uris_of r.behind) now);
       few =
           omega (arith, k.few, ap (λ (ds : List Document). length ds) r.parts, ap (λ (ds : List Document). length ds) others, length-append r.before (d ∷ r.behind), length-append r.before r.behind);
@@ -214,17 +214,17 @@ suited-removed m id change k (Some d) e a =
           omega (arith, k.room, ap (λ (ds : List Document). sum_by length_of ds) r.parts, ap (λ (ds : List Document). sum_by length_of ds) others, sum-put length_of r.before d r.behind);
     }
 
-suited : (m : State) (id : DocId) (change : Change) (act : Act) → IsValidState m → AsksAct (content_of m) id change act → refusal_of (content_of m) id change (document_in stored_name (map stored_of m.documents) id) act ≡ None → Suited m id change act
+suited : (m : State) (id : DocId) (change : Change) (act : ChangeKind) → IsValidState m → MayRequestByKind (content_of m) id change act → refusal_of (content_of m) id change (find_document stored_id (map stored_document m.documents) id) act ≡ None → Suited m id change act
 suited m id change (Makes root) k a h = suited-made m id change root k a (both-none (refusal_of_tree (content_of m) id true root) (refusal_of_number (content_of m)) h).0
 suited m id change Edits k a h =
     let o = find (λ (e : Document). same_id id e.id) m.documents in
-    let found = find-map stored_of (λ (h : StoredDocument). same_id id h.id) m.documents in
+    let found = find-map stored_document (λ (h : StoredDocument). same_id id h.id) m.documents in
     suited-edited m id change k o refl
-    (subst (λ (x : Option StoredDocument). IsSomeAnd x (λ h. Fits h.tree change × MayBeFor (usage_of h.id.auid) (edited h.tree change))) found a)
+    (subst (λ (x : Option StoredDocument). IsSomeAnd x (λ h. FitsTree h.tree change × MayBeDocumentFor (usage_of h.id.auid) (edited h.tree change))) found a)
     (subst (λ (x : Option StoredDocument). refusal_of (content_of m) id change x Edits ≡ None) found h)
 suited m id change Removes k a h =
     let o = find (λ (e : Document). same_id id e.id) m.documents in
-    suited-removed m id change k o refl (subst (λ (x : Option StoredDocument). IsSome x) (find-map stored_of (λ (h : StoredDocument). same_id id h.id) m.documents) a)
+    suited-removed m id change k o refl (subst (λ (x : Option StoredDocument). IsSome x) (find-map stored_document (λ (h : StoredDocument). same_id id h.id) m.documents) a)
 
 -- ---- what the store returns
 
@@ -232,13 +232,13 @@ pub not-refused : (o : Option StoreRefusal) (note : Note) (next : Content) (x : 
 not-refused None note next x h = refl
 not-refused (Some refusal) note next x h = cc
 
-suits-of : (m : State) (id : DocId) (change : Change) → IsValidState m → Asks (content_of m) id change → (x : Note × Content) → change_result (content_of m) id change ≡ Ok x → Suits m id change
+suits-of : (m : State) (id : DocId) (change : Change) → IsValidState m → MayRequest (content_of m) id change → (x : Note × Content) → change_result (content_of m) id change ≡ Ok x → IsAcceptable m id change
 suits-of m id change k a x h =
-    let found = document_in stored_name (map stored_of m.documents) id in
-    let s = suited m id change (act_of change) k a (not-refused (refusal_of (content_of m) id change found (act_of change)) (note_for (content_of m) id change found) (content_after (content_of m) id change) x h) in
+    let found = find_document stored_id (map stored_document m.documents) id in
+    let s = suited m id change (change_kind change) k a (not-refused (refusal_of (content_of m) id change found (change_kind change)) (note_for (content_of m) id change found) (contents_after (content_of m) id change) x h) in
     record { act = s.suits; services = s.services; few = s.few; room = s.room }
 
-pub accepted-suits : (c : Content) (m : State) (id : DocId) (change : Change) (x : Note × Content) → Represents c m → IsValidState m → Asks c id change → change_result c id change ≡ Ok x → Suits m id change
+pub accepted-suits : (c : Content) (m : State) (id : DocId) (change : Change) (x : Note × Content) → Represents c m → IsValidState m → MayRequest c id change → change_result c id change ≡ Ok x → IsAcceptable m id change
 accepted-suits c m id change x s k a h =
     let e : c ≡ content_of m = s in
-    suits-of m id change k (subst (λ (d : Content). Asks d id change) e a) x (subst (λ (d : Content). change_result d id change ≡ Ok x) e h)
+    suits-of m id change k (subst (λ (d : Content). MayRequest d id change) e a) x (subst (λ (d : Content). change_result d id change ≡ Ok x) e h)

@@ -7,11 +7,11 @@ use Rattle.std.proofs.lemmas.Bool.Decides.{nat_tests}
 use Rattle.std.proofs.lemmas.Iterator.Adapters.{position_from-zero}
 use Rattle.std.proofs.lemmas.Slice.Eq.{bytes_eq-Decides}
 use Rattle.std.specs.Option.{option_or as or_else}
-use Rattle.usage_docs.specs.declared.keys.Clash.{Clash}
+use Rattle.usage_docs.specs.declared.key_repeats.Clash.{Clash}
 use Rattle.usage_docs.specs.declared.schema_table.Key.TheVariants.{Uri}
 use Rattle.store_core.specs.declared.refusal.StoreRefusal.{StoreRefusal}
 use Rattle.store_core.specs.ValidStates.{AreDistinct}
-use Rattle.store_core.specs.DocumentChanges.{only_if, first_taken_address}
+use Rattle.store_core.specs.DocumentChanges.{refusal_if, first_taken_address}
 use Rattle.store_core.proofs.DistinctItems.{each-append, each-right, apart-behind, apart-cut}
 
 module _ {X : Type 0} where
@@ -54,7 +54,7 @@ no-more a b h = grind (arith, nat_tests)
 pub not-yet : (n : ℕ) → n + 1 ≤ 1000 → (true && nat_le 1000 n) ≡ false
 not-yet n h = grind (arith, nat_tests)
 
-pub not-told : (b : Bool) (r : StoreRefusal) → b ≡ false → only_if b r ≡ None
+pub not-told : (b : Bool) (r : StoreRefusal) → b ≡ false → refusal_if b r ≡ None
 not-told b r e = rw e refl
 
 pub neither : {A : Type 0} (a b : Option A) → a ≡ None → b ≡ None → or_else a b ≡ None

@@ -9,38 +9,38 @@ use Rattle.std.proofs.lemmas.List.Sums.{sum_by-append}
 use Rattle.std.specs.Option.{option_or as or_else}
 use Rattle.xml_tree.specs.Tree.{Tree}
 use Rattle.usage_docs.specs.Services.{document_len}
-use Rattle.usage_docs.specs.declared.keys.Clash.{Clash}
+use Rattle.usage_docs.specs.declared.key_repeats.Clash.{Clash}
 use Rattle.doc_names.specs.declared.usages.Usage.{Usage}
-use Rattle.doc_names.specs.Equality.{same_id}
+use Rattle.doc_names.specs.NameEquality.{same_id}
 use Rattle.doc_names.specs.declared.doc_id.DocId.{DocId}
-use Rattle.edit_ops.specs.Changes.{Fits, edited}
+use Rattle.edit_ops.specs.Changes.{FitsTree, edited}
 use Rattle.edit_ops.specs.declared.change.Change.{Change}
 use Rattle.edit_ops.specs.Notes.{note_of}
 use Rattle.store_core.specs.declared.refusal.StoreRefusal.{StoreRefusal}
 use Rattle.store_core.specs.declared.refusal.StoreRefusal.TheVariants.{ServiceTaken, TooLarge, TooMany, StoreFull, NoNumber}
 use Rattle.store_core.specs.State.{Document, State, created, document_after}
-use Rattle.store_core.specs.Contents.{StoredDocument, Represents, stored_of, StoreContents as Content, stock_of as content_of}
-use Rattle.store_core.specs.ValidStates.{AreDistinct, IsSoundFor, IsValidState, addresses, addresses_in}
+use Rattle.store_core.specs.Contents.{StoredDocument, Represents, stored_document, StoreContents as Content, contents_of as content_of}
+use Rattle.store_core.specs.ValidStates.{AreDistinct, IsSoundDocumentFor, IsValidState, all_addresses, document_addresses}
 use Rattle.doc_names.specs.Usages.{usage_of}
-use Rattle.store_core.specs.DocumentChanges.{Act, Makes, Edits, Removes, act_of, after_act, refusal_of, refusal_of_number, refusal_of_tree, refusal_or, change_result, content_after, document_in, stored_name, note_for, only_if, other_addresses, other_lengths, first_taken_address}
-use Rattle.store_core.specs.AcceptableChanges.{Suits, SuitsAct}
+use Rattle.store_core.specs.DocumentChanges.{ChangeKind, Makes, Edits, Removes, change_kind, state_after_by_kind, refusal_of, refusal_of_number, refusal_of_tree, refusal_or, change_result, contents_after, find_document, stored_id, note_for, refusal_if, other_addresses, total_len_of_others, first_taken_address}
+use Rattle.store_core.specs.AcceptableChanges.{IsAcceptable, IsAcceptableByKind}
 use Rattle.store_core.proofs.DistinctItems.{none-filtered, one-exchanged, one-filtered}
 use Rattle.store_core.proofs.KeptAfter.{round}
 use Rattle.doc_names.proofs.SameIds.{id_exact}
-use Rattle.store_core.proofs.AcceptedChanges.{uris_of, length_of, rest, rest-addresses, rest-lengths, sum-put, sum-first, find-map, not_found_refusal}
+use Rattle.store_core.proofs.AcceptedChanges.{uris_of, length_of, rest, rest-all_addresses, rest-lengths, sum-put, sum-first, find-map, not_found_refusal}
 use Rattle.store_core.proofs.AdmissionLemmas.{apart-unmix, neither, no-more, not-told, not-yet, nothing-first_taken_address}
 
-admits-tree : (c : Content) (id : DocId) (is_new : Bool) (t : Tree) → AllByRecursion (λ uri. AllByRecursion (λ o. uri ≢ o) (other_addresses c id)) (addresses_in id.auid t) → document_len t ≤ 262144 → (is_new && nat_le 1000 (length c.documents)) ≡ false → other_lengths c id + document_len t ≤ 33554432 → refusal_of_tree c id is_new t ≡ None
+admits-tree : (c : Content) (id : DocId) (is_new : Bool) (t : Tree) → AllByRecursion (λ uri. AllByRecursion (λ o. uri ≢ o) (other_addresses c id)) (document_addresses id.auid t) → document_len t ≤ 262144 → (is_new && nat_le 1000 (length c.documents)) ≡ false → total_len_of_others c id + document_len t ≤ 33554432 → refusal_of_tree c id is_new t ≡ None
 admits-tree c id is_new t services short few room =
     let told : Clash → StoreRefusal = λ clash. ServiceTaken clash in
-    let first : Option StoreRefusal = option_map told (first_taken_address (other_addresses c id) (addresses_in id.auid t)) in
-    let second : Option StoreRefusal = only_if (nat_lt 262144 (document_len t)) (TooLarge (min (document_len t) 18446744073709551615)) in
-    let third : Option StoreRefusal = only_if (is_new && nat_le 1000 (length c.documents)) TooMany in
-    let fourth : Option StoreRefusal = only_if (nat_lt 33554432 (other_lengths c id + document_len t)) (StoreFull (other_lengths c id + document_len t)) in
-    neither first (or_else second (or_else third fourth)) (ap (λ (o : Option Clash). option_map told o) (nothing-first_taken_address (other_addresses c id) (addresses_in id.auid t) services))
+    let first : Option StoreRefusal = option_map told (first_taken_address (other_addresses c id) (document_addresses id.auid t)) in
+    let second : Option StoreRefusal = refusal_if (nat_lt 262144 (document_len t)) (TooLarge (min (document_len t) 18446744073709551615)) in
+    let third : Option StoreRefusal = refusal_if (is_new && nat_le 1000 (length c.documents)) TooMany in
+    let fourth : Option StoreRefusal = refusal_if (nat_lt 33554432 (total_len_of_others c id + document_len t)) (StoreFull (total_len_of_others c id + document_len t)) in
+    neither first (or_else second (or_else third fourth)) (ap (λ (o : Option Clash). option_map told o) (nothing-first_taken_address (other_addresses c id) (document_addresses id.auid t) services))
     (neither second (or_else third fourth) (not-told (nat_lt 262144 (document_len t)) (TooLarge (min (document_len t) 18446744073709551615)) (no-more 262144 (document_len t) short))
     (neither third fourth (not-told (is_new && nat_le 1000 (length c.documents)) TooMany few)
-    (not-told (nat_lt 33554432 (other_lengths c id + document_len t)) (StoreFull (other_lengths c id + document_len t)) (no-more 33554432 (other_lengths c id + document_len t) room))))
+    (not-told (nat_lt 33554432 (total_len_of_others c id + document_len t)) (StoreFull (total_len_of_others c id + document_len t)) (no-more 33554432 (total_len_of_others c id + document_len t) room))))
 
 under : (n : ℕ) → n < 18446744073709551616 → nat_le 18446744073709551616 n ≡ false
 under n h = grind (arith, nat_tests)
@@ -48,68 +48,68 @@ under n h = grind (arith, nat_tests)
 has-number : (c : Content) → c.next < 18446744073709551616 → refusal_of_number c ≡ None
 has-number c h = not-told (nat_le 18446744073709551616 c.next) NoNumber (under c.next h)
 
-short-of : (usage : Option Usage) (t : Tree) → IsSoundFor usage t → document_len t ≤ 262144
+short-of : (usage : Option Usage) (t : Tree) → IsSoundDocumentFor usage t → document_len t ≤ 262144
 short-of None t h = absurd h
 short-of (Some usage) t h = h.short
 
-few-before : (m : State) (d : Document) → length (m.documents ++ d ∷ []) ≤ 1000 → length (map stored_of m.documents) + 1 ≤ 1000
-few-before m d h = omega (arith, h, length-map m.documents stored_of, length-append m.documents (d ∷ []))
+few-before : (m : State) (d : Document) → length (m.documents ++ d ∷ []) ≤ 1000 → length (map stored_document m.documents) + 1 ≤ 1000
+few-before m d h = omega (arith, h, length-map m.documents stored_document, length-append m.documents (d ∷ []))
 
 room-before : (ds : List Document) (d : Document) (n : ℕ) → n ≡ sum_by length_of ds → sum_by length_of (ds ++ d ∷ []) ≤ 33554432 → n + length_of d ≤ 33554432
 room-before ds d n e h = omega (arith, e, h, sum_by-append length_of ds (d ∷ []), sum-first length_of d [])
 
-admits-made : (m : State) (id : DocId) (change : Change) (root : Tree) → SuitsAct m id change (Makes root) → AreDistinct (addresses (after_act m id change (Makes root)).documents) → length (after_act m id change (Makes root)).documents ≤ 1000
-    → sum_by (λ d. document_len d.now.tree) (after_act m id change (Makes root)).documents ≤ 33554432 → refusal_of_tree (content_of m) id true root ≡ None
+admits-made : (m : State) (id : DocId) (change : Change) (root : Tree) → IsAcceptableByKind m id change (Makes root) → AreDistinct (all_addresses (state_after_by_kind m id change (Makes root)).documents) → length (state_after_by_kind m id change (Makes root)).documents ≤ 1000
+    → sum_by (λ d. document_len d.now.tree) (state_after_by_kind m id change (Makes root)).documents ≤ 33554432 → refusal_of_tree (content_of m) id true root ≡ None
 admits-made m id change root s services few room =
     let new = created id m.next root in
     let all : rest m id ≡ m.documents = none-filtered (λ (e : Document). same_id id e.id) m.documents (not_found_refusal (λ (e : Document). same_id id e.id) m.documents s.0) in
-    let others : other_addresses (content_of m) id ≡ addresses m.documents ++ [] = rest-addresses m id ∙ ap (λ (ds : List Document). addresses ds) all ∙ sym (append-nil (addresses m.documents)) in
-    let own = addresses_in id.auid root in
+    let others : other_addresses (content_of m) id ≡ all_addresses m.documents ++ [] = rest-all_addresses m id ∙ ap (λ (ds : List Document). all_addresses ds) all ∙ sym (append-nil (all_addresses m.documents)) in
+    let own = document_addresses id.auid root in
     admits-tree (content_of m) id true root
     (subst (λ (xs : List (List ℕ)). AllByRecursion (λ uri. AllByRecursion (λ o. uri ≢ o) xs) own) (sym others)
-    (apart-unmix (addresses m.documents) own [] (subst (λ (xs : List (List ℕ)). AreDistinct xs) (flat_map-append uris_of m.documents (new ∷ [])) services)))
-    (short-of (usage_of id.auid) root s.3) (not-yet (length (map stored_of m.documents)) (few-before m new few))
-    (room-before m.documents new (other_lengths (content_of m) id) (rest-lengths m id ∙ ap (λ (ds : List Document). sum_by length_of ds) all) room)
+    (apart-unmix (all_addresses m.documents) own [] (subst (λ (xs : List (List ℕ)). AreDistinct xs) (flat_map-append uris_of m.documents (new ∷ [])) services)))
+    (short-of (usage_of id.auid) root s.3) (not-yet (length (map stored_document m.documents)) (few-before m new few))
+    (room-before m.documents new (total_len_of_others (content_of m) id) (rest-lengths m id ∙ ap (λ (ds : List Document). sum_by length_of ds) all) room)
 
 admits-edited : (m : State) (id : DocId) (change : Change) → IsValidState m → (o : Option Document) → find (λ e. same_id id e.id) m.documents ≡ o
-    → IsSomeAnd o (λ d. Fits d.now.tree change × IsSoundFor (usage_of d.id.auid) (edited d.now.tree change)) → AreDistinct (addresses (after_act m id change Edits).documents)
-    → sum_by (λ d. document_len d.now.tree) (after_act m id change Edits).documents ≤ 33554432 → m.next < 18446744073709551616 → refusal_of (content_of m) id change (option_map stored_of o) Edits ≡ None
+    → IsSomeAnd o (λ d. FitsTree d.now.tree change × IsSoundDocumentFor (usage_of d.id.auid) (edited d.now.tree change)) → AreDistinct (all_addresses (state_after_by_kind m id change Edits).documents)
+    → sum_by (λ d. document_len d.now.tree) (state_after_by_kind m id change Edits).documents ≤ 33554432 → m.next < 18446744073709551616 → refusal_of (content_of m) id change (option_map stored_document o) Edits ≡ None
 admits-edited m id change k None e s services room number = absurd s
 admits-edited m id change k (Some d) e s services room number =
     let r = round m id d k e in
     let t = edited d.now.tree change in
     let update_entry : Document → Document = λ e. document_after m.next e (note_of e.now.tag m.next e.now.tree change) in
-    let docs : (after_act m id change Edits).documents ≡ r.before ++ update_entry d ∷ r.behind =
+    let docs : (state_after_by_kind m id change Edits).documents ≡ r.before ++ update_entry d ∷ r.behind =
     ap (λ (ds : List Document). map (λ e. cond (same_id id e.id) (update_entry e) e) ds) r.parts
     ∙ one-exchanged (λ (e : Document). same_id id e.id) update_entry r.before r.behind d r.none-before r.passes r.none-behind in
     let others : rest m id ≡ r.before ++ r.behind =
     ap (λ (ds : List Document). filter (λ e. not (same_id id e.id)) ds) r.parts
     ∙ one-filtered (λ (e : Document). same_id id e.id) r.before r.behind d r.none-before r.passes r.none-behind in
     let same : d.id ≡ id = sym (id_exact id d.id r.passes) in
-    let own = addresses_in d.id.auid t in
+    let own = document_addresses d.id.auid t in
     let apart : AllByRecursion (λ uri. AllByRecursion (λ o. uri ≢ o) (other_addresses (content_of m) id)) own =
     subst (λ (xs : List (List ℕ)). AllByRecursion (λ uri. AllByRecursion (λ o. uri ≢ o) xs) own)
-    (sym (rest-addresses m id ∙ ap (λ (ds : List Document). addresses ds) others ∙ flat_map-append uris_of r.before r.behind))
-    (apart-unmix (flat_map uris_of r.before) own (flat_map uris_of r.behind) (subst (λ (xs : List (List ℕ)). AreDistinct xs) (ap (λ (ds : List Document). addresses ds) docs ∙ flat_map-append uris_of r.before (update_entry d ∷ r.behind)) services)) in
+    (sym (rest-all_addresses m id ∙ ap (λ (ds : List Document). all_addresses ds) others ∙ flat_map-append uris_of r.before r.behind))
+    (apart-unmix (flat_map uris_of r.before) own (flat_map uris_of r.behind) (subst (λ (xs : List (List ℕ)). AreDistinct xs) (ap (λ (ds : List Document). all_addresses ds) docs ∙ flat_map-append uris_of r.before (update_entry d ∷ r.behind)) services)) in
     neither (refusal_of_tree (content_of m) id false t) (refusal_of_number (content_of m))
-    (admits-tree (content_of m) id false t (subst (λ (i : DocId). AllByRecursion (λ uri. AllByRecursion (λ o. uri ≢ o) (other_addresses (content_of m) id)) (addresses_in i.auid t)) same apart)
+    (admits-tree (content_of m) id false t (subst (λ (i : DocId). AllByRecursion (λ uri. AllByRecursion (λ o. uri ≢ o) (other_addresses (content_of m) id)) (document_addresses i.auid t)) same apart)
     (short-of (usage_of d.id.auid) t s.1) refl
     (omega (arith, room, rest-lengths m id, ap (λ (ds : List Document). sum_by length_of ds) others, ap (λ (ds : List Document). sum_by length_of ds) docs, sum-put length_of r.before (update_entry d) r.behind)))
     (has-number (content_of m) number)
 
-admits : (m : State) (id : DocId) (change : Change) (act : Act) → IsValidState m → SuitsAct m id change act → AreDistinct (addresses (after_act m id change act).documents) → length (after_act m id change act).documents ≤ 1000
-    → sum_by (λ d. document_len d.now.tree) (after_act m id change act).documents ≤ 33554432 → m.next < 18446744073709551616 → refusal_of (content_of m) id change (document_in stored_name (map stored_of m.documents) id) act ≡ None
+admits : (m : State) (id : DocId) (change : Change) (act : ChangeKind) → IsValidState m → IsAcceptableByKind m id change act → AreDistinct (all_addresses (state_after_by_kind m id change act).documents) → length (state_after_by_kind m id change act).documents ≤ 1000
+    → sum_by (λ d. document_len d.now.tree) (state_after_by_kind m id change act).documents ≤ 33554432 → m.next < 18446744073709551616 → refusal_of (content_of m) id change (find_document stored_id (map stored_document m.documents) id) act ≡ None
 admits m id change (Makes root) k s services few room number =
     neither (refusal_of_tree (content_of m) id true root) (refusal_of_number (content_of m)) (admits-made m id change root s services few room) (has-number (content_of m) number)
 admits m id change Edits k s services few room number =
     let o = find (λ (e : Document). same_id id e.id) m.documents in
-    subst (λ (x : Option StoredDocument). refusal_of (content_of m) id change x Edits ≡ None) (sym (find-map stored_of (λ (h : StoredDocument). same_id id h.id) m.documents)) (admits-edited m id change k o refl s services room number)
+    subst (λ (x : Option StoredDocument). refusal_of (content_of m) id change x Edits ≡ None) (sym (find-map stored_document (λ (h : StoredDocument). same_id id h.id) m.documents)) (admits-edited m id change k o refl s services room number)
 admits m id change Removes k s services few room number = has-number (content_of m) number
 
-pub suiting-made : (c : Content) (m : State) (id : DocId) (change : Change) → Represents c m → IsValidState m → Suits m id change → m.next < 18446744073709551616
-    → change_result c id change ≡ Ok (note_for c id change (document_in stored_name c.documents id), content_after c id change)
+pub suiting-made : (c : Content) (m : State) (id : DocId) (change : Change) → Represents c m → IsValidState m → IsAcceptable m id change → m.next < 18446744073709551616
+    → change_result c id change ≡ Ok (note_for c id change (find_document stored_id c.documents id), contents_after c id change)
 suiting-made c m id change s k t number =
-    let found = document_in stored_name c.documents id in
-    let h : refusal_of c id change found (act_of change) ≡ None =
-    subst (λ (d : Content). refusal_of d id change (document_in stored_name d.documents id) (act_of change) ≡ None) (sym s) (admits m id change (act_of change) k t.act t.services t.few t.room number) in
-    ap (λ (o : Option StoreRefusal). refusal_or o (note_for c id change found) (content_after c id change)) h
+    let found = find_document stored_id c.documents id in
+    let h : refusal_of c id change found (change_kind change) ≡ None =
+    subst (λ (d : Content). refusal_of d id change (find_document stored_id d.documents id) (change_kind change) ≡ None) (sym s) (admits m id change (change_kind change) k t.act t.services t.few t.room number) in
+    ap (λ (o : Option StoreRefusal). refusal_or o (note_for c id change found) (contents_after c id change)) h

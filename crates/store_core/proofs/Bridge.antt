@@ -6,18 +6,18 @@ use Rattle.std.proofs.lemmas.Bool.Decides.{nat_tests}
 use Rattle.std.proofs.lemmas.List.{reverse-append, reverse-reverse}
 use Rattle.std.specs.List.{AllByRecursion}
 use Rattle.doc_names.specs.declared.usages.Usage.{Usage}
-use Rattle.doc_names.specs.Equality.{same_id}
+use Rattle.doc_names.specs.NameEquality.{same_id}
 use Rattle.doc_names.specs.declared.doc_id.DocId.{DocId}
 use Rattle.edit_ops.specs.Notes.{Note}
-use Rattle.edit_ops.specs.Operations.{weight}
-use Rattle.store_core.specs.DocumentChanges.{document_in, document_name, stored_name}
-use Rattle.store_core.specs.Contents.{StoredDocument, Represents, stored_of, StoreContents as Content}
+use Rattle.edit_ops.specs.DiffOperations.{weight}
+use Rattle.store_core.specs.DocumentChanges.{find_document, document_id, stored_id}
+use Rattle.store_core.specs.Contents.{StoredDocument, Represents, stored_document, StoreContents as Content}
 use Rattle.doc_names.specs.Usages.{usage_of}
-use Rattle.store_core.specs.ValidStates.{IsKept, IsValidState}
+use Rattle.store_core.specs.ValidStates.{IsValidDocument, IsValidState}
 use Rattle.store_core.specs.Since.{ReportedChanges, notes_from, since}
-use Rattle.store_core.specs.inner.ChangesSince.{held_since, changes_since_of}
-use Rattle.store_core.specs.State.{Document, State, Version, is_small, notes, retained, small_end, versions}
-use Rattle.store_core.specs.History.{IsSince, Leads}
+use Rattle.store_core.specs.inner.ChangesSince.{stored_changes_since, changes_since_of}
+use Rattle.store_core.specs.State.{Document, State, Version, is_within_retention, notes, retained_notes, longest_retained_end, versions}
+use Rattle.store_core.specs.History.{AreRecordsSince, RecordsLeadBetween}
 use Rattle.store_core.proofs.Chains.{Reached, notes_of, reached}
 
 -- ---- ends of lists
@@ -26,16 +26,16 @@ both : (a b : Bool) → (a && b) ≡ true → (a ≡ true) × (b ≡ true)
 both true b h = (refl, h)
 both false b h = absurd cc
 
-small_end_is : {A : Type 0} (w : A → ℕ) (xs : List A) → (front : List A) × (xs ≡ front ++ small_end w xs) × (length (small_end w xs) ≤ 64)
+small_end_is : {A : Type 0} (w : A → ℕ) (xs : List A) → (front : List A) × (xs ≡ front ++ longest_retained_end w xs) × (length (longest_retained_end w xs) ≤ 64)
 small_end_is w [] = ([], refl, omega arith)
 small_end_is w (x ∷ []) = ([], refl, omega arith)
-small_end_is w (x ∷ y ∷ xs) = by (is_small w (x ∷ y ∷ xs)) refl (small_end_is w (y ∷ xs))
+small_end_is w (x ∷ y ∷ xs) = by (is_within_retention w (x ∷ y ∷ xs)) refl (small_end_is w (y ∷ xs))
   where
     low : (n : ℕ) → nat_le n 64 ≡ true → n ≤ 64
     low n h = grind (arith, nat_tests)
 
-    by : (b : Bool) → is_small w (x ∷ y ∷ xs) ≡ b → (front : _) × (y ∷ xs ≡ front ++ small_end w (y ∷ xs)) × (length (small_end w (y ∷ xs)) ≤ 64)
-        → (front : _) × (x ∷ y ∷ xs ≡ front ++ small_end w (x ∷ y ∷ xs)) × (length (small_end w (x ∷ y ∷ xs)) ≤ 64)
+    by : (b : Bool) → is_within_retention w (x ∷ y ∷ xs) ≡ b → (front : _) × (y ∷ xs ≡ front ++ longest_retained_end w (y ∷ xs)) × (length (longest_retained_end w (y ∷ xs)) ≤ 64)
+        → (front : _) × (x ∷ y ∷ xs ≡ front ++ longest_retained_end w (x ∷ y ∷ xs)) × (length (longest_retained_end w (x ∷ y ∷ xs)) ≤ 64)
     by true e r = rw e ([], refl, low (length (x ∷ y ∷ xs)) (both (nat_le (length (x ∷ y ∷ xs)) 64) (nat_le (sum_by w (x ∷ y ∷ xs)) 65536) e).0)
     by false e r = rw e (x ∷ r.0, ap (λ l. x ∷ l) r.1, r.2)
 
@@ -74,26 +74,26 @@ low_all next (v ∷ vs) h = (h.0.1, low_all next vs h.1)
 -- ---- what is returned
 
 -- an end of a document's records leads from one of its versions to the present one
-from_end : (next : ℕ) (d : Document) (front ns : List Note) → IsKept next d → notes d ≡ front ++ ns → Reached (usage_of d.id.auid) next (versions d) ns d.now
+from_end : (next : ℕ) (d : Document) (front ns : List Note) → IsValidDocument next d → notes d ≡ front ++ ns → Reached (usage_of d.id.auid) next (versions d) ns d.now
 from_end next d front ns kept is =
     let turned : notes_of (versions d) ≡ reverse ns ++ reverse front = sym (reverse-reverse (notes_of (versions d))) ∙ ap reverse is ∙ reverse-append front ns in
     subst (λ l. Reached (usage_of d.id.auid) next (versions d) l d.now) (reverse-reverse ns)
     (reached (usage_of d.id.auid) next d.now d.earlier (reverse ns) (reverse front) kept.sound (low_all next (versions d) kept.tags) kept.follows turned)
 
 -- the first record says from which etag it continues
-first_tag : (usage : Option Usage) (next : ℕ) (from to : Version) (ns : List Note) (n : Note) (ms : List Note) (tag : ℕ) → Leads usage next from ns to → ns ≡ n ∷ ms → n.previous ≡ tag → from.tag ≡ tag
+first_tag : (usage : Option Usage) (next : ℕ) (from to : Version) (ns : List Note) (n : Note) (ms : List Note) (tag : ℕ) → RecordsLeadBetween usage next from ns to → ns ≡ n ∷ ms → n.previous ≡ tag → from.tag ≡ tag
 first_tag usage next from to ns n ms tag h is previous =
-    let k : Leads usage next from (n ∷ ms) to = subst (λ l. Leads usage next from l to) is h in
+    let k : RecordsLeadBetween usage next from (n ∷ ms) to = subst (λ l. RecordsLeadBetween usage next from l to) is h in
     sym (ap (λ (x : Note). x.previous) k.notes.1) ∙ previous
 
-by_story : (m : State) (id : DocId) (tag : ℕ) (ns : List Note) (d : Document) → document_in document_name m.documents id ≡ Some d → IsKept m.next d → changes_since_of (notes_from tag (retained (notes d))) ≡ ReportedChanges ns → IsSince m id tag ns
-by_story m id tag ns d there kept is = by (notes_from tag (retained (notes d))) refl is
+by_story : (m : State) (id : DocId) (tag : ℕ) (ns : List Note) (d : Document) → find_document document_id m.documents id ≡ Some d → IsValidDocument m.next d → changes_since_of (notes_from tag (retained_notes (notes d))) ≡ ReportedChanges ns → AreRecordsSince m id tag ns
+by_story m id tag ns d there kept is = by (notes_from tag (retained_notes (notes d))) refl is
   where
-    by : (o : Option (List Note)) → notes_from tag (retained (notes d)) ≡ o → changes_since_of o ≡ ReportedChanges ns → IsSince m id tag ns
+    by : (o : Option (List Note)) → notes_from tag (retained_notes (notes d)) ≡ o → changes_since_of o ≡ ReportedChanges ns → AreRecordsSince m id tag ns
     by None e s = absurd (cc)
     by (Some xs) e s =
         let same : xs ≡ ns = cc in
-        let f = from_is tag (retained (notes d)) ns (e ∙ ap (λ l. Some l) same) in
+        let f = from_is tag (retained_notes (notes d)) ns (e ∙ ap (λ l. Some l) same) in
         let g = small_end_is weight (notes d) in
         let whole : notes d ≡ (g.0 ++ f.0) ++ ns = g.1 ∙ ap (λ l. g.0 ++ l) f.1 ∙ sym (append_assoc g.0 f.0 ns) in
         let r = from_end m.next d (g.0 ++ f.0) ns kept whole in record {
@@ -104,13 +104,13 @@ by_story m id tag ns d there kept is = by (notes_from tag (retained (notes d))) 
           is_version = r.there;
           same_tag = first_tag (usage_of d.id.auid) m.next r.from d.now ns f.2 f.3 tag r.leads f.4 f.5;
           leads = r.leads;
-          few = omega (arith, length-le f.0 ns (retained (notes d)) f.1, g.2);
+          few = omega (arith, length-le f.0 ns (retained_notes (notes d)) f.1, g.2);
         }
 
-present : (m : State) (id : DocId) (tag : ℕ) (ns : List Note) (d : Document) → document_in document_name m.documents id ≡ Some d → IsKept m.next d → d.now.tag ≡ tag → [] ≡ ns → IsSince m id tag ns
+present : (m : State) (id : DocId) (tag : ℕ) (ns : List Note) (d : Document) → find_document document_id m.documents id ≡ Some d → IsValidDocument m.next d → d.now.tag ≡ tag → [] ≡ ns → AreRecordsSince m id tag ns
 present m id tag ns d there kept same none =
     let r = from_end m.next d (notes d) [] kept (sym (append-nil (notes d))) in
-    subst (IsSince m id tag) none (record {
+    subst (AreRecordsSince m id tag) none (record {
       document = d;
       there = there;
       from = d.now;
@@ -128,17 +128,17 @@ present m id tag ns d there kept same none =
       few = omega arith;
     })
 
-by_held : (m : State) (id : DocId) (tag : ℕ) (ns : List Note) (d : Document) (b : Bool) → document_in document_name m.documents id ≡ Some d → IsKept m.next d → d.now.tag == tag ≡ b
-    → cond b (ReportedChanges []) (changes_since_of (notes_from tag (retained (notes d)))) ≡ ReportedChanges ns → IsSince m id tag ns
+by_held : (m : State) (id : DocId) (tag : ℕ) (ns : List Note) (d : Document) (b : Bool) → find_document document_id m.documents id ≡ Some d → IsValidDocument m.next d → d.now.tag == tag ≡ b
+    → cond b (ReportedChanges []) (changes_since_of (notes_from tag (retained_notes (notes d)))) ≡ ReportedChanges ns → AreRecordsSince m id tag ns
 by_held m id tag ns d true there kept e s = let none : [] ≡ ns = cc in present m id tag ns d there kept (eqb-true d.now.tag tag e) none
 by_held m id tag ns d false there kept e s = by_story m id tag ns d there kept s
 
-by_found : (m : State) (id : DocId) (tag : ℕ) (ns : List Note) (o : Option StoredDocument) → IsValidState m → document_in stored_name (map stored_of m.documents) id ≡ o → held_since tag o ≡ ReportedChanges ns → IsSince m id tag ns
+by_found : (m : State) (id : DocId) (tag : ℕ) (ns : List Note) (o : Option StoredDocument) → IsValidState m → find_document stored_id (map stored_document m.documents) id ≡ o → stored_changes_since tag o ≡ ReportedChanges ns → AreRecordsSince m id tag ns
 by_found m id tag ns None kept is s = absurd (cc)
 by_found m id tag ns (Some h) kept is s =
-    let r = found stored_of (λ x. same_id id x.id) (IsKept m.next) m.documents h kept.documents is in
-    by_held m id tag ns r.0 (r.0.now.tag == tag) r.1 r.3 refl (ap (λ o. held_since tag (Some o)) r.2 ∙ s)
+    let r = found stored_document (λ x. same_id id x.id) (IsValidDocument m.next) m.documents h kept.documents is in
+    by_held m id tag ns r.0 (r.0.now.tag == tag) r.1 r.3 refl (ap (λ o. stored_changes_since tag (Some o)) r.2 ∙ s)
 
-pub told_since : (c : Content) (m : State) (id : DocId) (tag : ℕ) (ns : List Note) → IsValidState m → Represents c m → since c id tag ≡ ReportedChanges ns → IsSince m id tag ns
+pub told_since : (c : Content) (m : State) (id : DocId) (tag : ℕ) (ns : List Note) → IsValidState m → Represents c m → since c id tag ≡ ReportedChanges ns → AreRecordsSince m id tag ns
 told_since c m id tag ns kept stands is =
-    by_found m id tag ns (document_in stored_name (map stored_of m.documents) id) kept refl (ap (λ (x : Content). held_since tag (document_in stored_name x.documents id)) (sym stands) ∙ is)
+    by_found m id tag ns (find_document stored_id (map stored_document m.documents) id) kept refl (ap (λ (x : Content). stored_changes_since tag (find_document stored_id x.documents id)) (sym stands) ∙ is)

@@ -9,7 +9,7 @@ use Rattle.std.specs.Ordering.{is_lt, ordering_reverse}
 use Rattle.std.specs.declared.cmp.Ordering.{Ordering}
 use Rattle.std.specs.declared.cmp.Ordering.TheVariants.{Less, Equal, Greater}
 use Rattle.xml_tree.specs.Tree.{Tree}
-use Rattle.store_core.specs.Indexes.{AreByUser, AreIndexTrees, index_entry}
+use Rattle.store_core.specs.Indexes.{IsSortedByUser, AreIndexTrees, index_entry}
 use Rattle.store_core.proofs.InOrder.{Pair, cmp, each-placed, in_order, placed, put, turned}
 use Rattle.store_core.proofs.SortLemmas.{Rises, from-lower, one-order, rises-sorted, sorted-rises, tied}
 use Rattle.store_core.specs.Contents.{StoreContents as Content}
@@ -75,10 +75,10 @@ keeps x (d ∷ ds) = placed-keeps x d (in_order ds) ∙ ap (more (ties less x d)
 
 -- ---- the one list
 
-pub by-user : (ds : List Pair) → AreByUser ds (in_order ds)
+pub by-user : (ds : List Pair) → IsSortedByUser ds (in_order ds)
 by-user ds = record { rises = sorted-rises less (in_order ds) (rises ds); keeps = λ x. keeps x ds }
 
-pub one-by-user : (ds xs ys : List Pair) → AreByUser ds xs → AreByUser ds ys → xs ≡ ys
+pub one-by-user : (ds xs ys : List Pair) → IsSortedByUser ds xs → IsSortedByUser ds ys → xs ≡ ys
 one-by-user ds xs ys a b =
     one-order less is-order xs ys (rises-sorted less is-order xs a.rises) (rises-sorted less is-order ys b.rises) (λ x. a.keeps x ∙ sym (b.keeps x))
 

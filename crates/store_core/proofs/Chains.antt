@@ -3,16 +3,16 @@ use Rattle.std.proofs.Common.{◌≡◌, ℕ, suc, ◌<◌, List, [], ◌∷◌,
 use Rattle.std.proofs.lemmas.List.{reverse-append}
 use Rattle.std.specs.List.{AllByRecursion, filter_map}
 use Rattle.xml_tree.specs.Tree.{Tree}
-use Rattle.edit_ops.specs.Changes.{Fits, edited}
+use Rattle.edit_ops.specs.Changes.{FitsTree, edited}
 use Rattle.edit_ops.specs.Notes.{AreNotesOf, Note, note_of, tag_after, tree_after}
 use Rattle.doc_names.specs.declared.usages.Usage.{Usage}
-use Rattle.store_core.specs.ValidStates.{FollowFrom, IsSoundFor}
+use Rattle.store_core.specs.ValidStates.{AreSuccessiveVersions, IsSoundDocumentFor}
 use Rattle.store_core.specs.State.{Version}
-use Rattle.store_core.specs.History.{AreSound, Leads}
+use Rattle.store_core.specs.History.{TreesAreSound, RecordsLeadBetween}
 
 -- ---- one more record
 
-notes_more : (tag : ℕ) (t : Tree) (ns : List Note) (n : Note) → AreNotesOf tag t ns → Fits (tree_after t ns) n.change → n ≡ note_of (tag_after tag ns) n.next (tree_after t ns) n.change → AreNotesOf tag t (ns ++ n ∷ [])
+notes_more : (tag : ℕ) (t : Tree) (ns : List Note) (n : Note) → AreNotesOf tag t ns → FitsTree (tree_after t ns) n.change → n ≡ note_of (tag_after tag ns) n.next (tree_after t ns) n.change → AreNotesOf tag t (ns ++ n ∷ [])
 notes_more tag t [] n h fits is = (fits, is, tt)
 notes_more tag t (x ∷ ns) n h fits is = (h.0, h.1, notes_more x.next (edited t x.change) ns n h.2 fits is)
 
@@ -24,7 +24,7 @@ tag_more : (tag : ℕ) (ns : List Note) (n : Note) → tag_after tag (ns ++ n �
 tag_more tag [] n = refl
 tag_more tag (x ∷ ns) n = tag_more x.next ns n
 
-sound_more : (usage : Option Usage) (t : Tree) (ns : List Note) (n : Note) → AreSound usage t ns → IsSoundFor usage (edited (tree_after t ns) n.change) → AreSound usage t (ns ++ n ∷ [])
+sound_more : (usage : Option Usage) (t : Tree) (ns : List Note) (n : Note) → TreesAreSound usage t ns → IsSoundDocumentFor usage (edited (tree_after t ns) n.change) → TreesAreSound usage t (ns ++ n ∷ [])
 sound_more usage t [] n h g = (h, g)
 sound_more usage t (x ∷ ns) n h g = (h.0, sound_more usage (edited t x.change) ns n h.1 g)
 
@@ -32,16 +32,16 @@ tags_more : (next : ℕ) (ns : List Note) (n : Note) → AllByRecursion (λ x. x
 tags_more next [] n h g = (g, tt)
 tags_more next (x ∷ ns) n h g = (h.0, tags_more next ns n h.1 g)
 
-leads_more : (usage : Option Usage) (next : ℕ) (from w v : Version) (ns : List Note) (n : Note) → Leads usage next from ns w → Fits w.tree n.change → v.tree ≡ edited w.tree n.change → n ≡ note_of w.tag v.tag w.tree n.change → IsSoundFor usage v.tree → v.tag < next
-    → Leads usage next from (ns ++ n ∷ []) v
+leads_more : (usage : Option Usage) (next : ℕ) (from w v : Version) (ns : List Note) (n : Note) → RecordsLeadBetween usage next from ns w → FitsTree w.tree n.change → v.tree ≡ edited w.tree n.change → n ≡ note_of w.tag v.tag w.tree n.change → IsSoundDocumentFor usage v.tree → v.tag < next
+    → RecordsLeadBetween usage next from (ns ++ n ∷ []) v
 leads_more usage next from w v ns n h fits made is sound low =
     let tagged : n.next ≡ v.tag = ap (λ (x : Note). x.next) is in
     let is' : n ≡ note_of (tag_after from.tag ns) n.next (tree_after from.tree ns) n.change = is ∙ (λ i. note_of (sym h.tag i) (sym tagged i) (sym h.tree i) n.change) in
     let here : edited (tree_after from.tree ns) n.change ≡ v.tree = ap (λ t. edited t n.change) h.tree ∙ sym made in record {
-      notes = notes_more from.tag from.tree ns n h.notes (subst (λ t. Fits t n.change) (sym h.tree) fits) is';
+      notes = notes_more from.tag from.tree ns n h.notes (subst (λ t. FitsTree t n.change) (sym h.tree) fits) is';
       tree = tree_more from.tree ns n ∙ here;
       tag = tag_more from.tag ns n ∙ tagged;
-      sound = sound_more usage from.tree ns n h.sound (subst (IsSoundFor usage) (sym here) sound);
+      sound = sound_more usage from.tree ns n h.sound (subst (IsSoundDocumentFor usage) (sym here) sound);
       first = h.first;
       tags = tags_more next ns n h.tags (subst (λ k. k < next) (sym tagged) low);
     }
@@ -53,7 +53,7 @@ pub record Reached (usage : Option Usage) (next : ℕ) (vs : List Version) (ns :
   pub from : Version
   pub number : ℕ
   pub there : slice_get vs number ≡ Some from
-  pub leads : Leads usage next from ns to
+  pub leads : RecordsLeadBetween usage next from ns to
 
 abbrev pub notes_of : List Version → List Note
 notes_of vs = filter_map (λ v. v.note) vs
@@ -67,11 +67,11 @@ some_noted v vs n is = rw is refl
 heads : {A : Type 0} (x y : A) (xs ys : List A) → x ∷ xs ≡ y ∷ ys → (x ≡ y) × (xs ≡ ys)
 heads x y xs ys h = (cc, cc)
 
-start : (usage : Option Usage) (next : ℕ) (v : Version) → IsSoundFor usage v.tree → v.tag < next → Leads usage next v [] v
+start : (usage : Option Usage) (next : ℕ) (v : Version) → IsSoundDocumentFor usage v.tree → v.tag < next → RecordsLeadBetween usage next v [] v
 start usage next v sound low = record { notes = tt; tree = refl; tag = refl; sound = sound; first = low; tags = tt }
 
 -- the first of these records lead from some version to the newest one
-pub reached : (usage : Option Usage) (next : ℕ) (v : Version) (ws : List Version) (front back : List Note) → AllByRecursion (λ x. IsSoundFor usage x.tree) (v ∷ ws) → AllByRecursion (λ x. x.tag < next) (v ∷ ws) → FollowFrom v ws
+pub reached : (usage : Option Usage) (next : ℕ) (v : Version) (ws : List Version) (front back : List Note) → AllByRecursion (λ x. IsSoundDocumentFor usage x.tree) (v ∷ ws) → AllByRecursion (λ x. x.tag < next) (v ∷ ws) → AreSuccessiveVersions v ws
     → notes_of (v ∷ ws) ≡ front ++ back → Reached usage next (v ∷ ws) (reverse front) v
 reached usage next v ws [] back sound low f is = record { from = v; number = 0; there = refl; leads = start usage next v sound.0 low.0 }
 reached usage next v [] (n ∷ front) back sound low f is = absurd (let z : [] ≡ n ∷ (front ++ back) = sym (none_noted v [] f) ∙ is in cc)
@@ -81,4 +81,4 @@ reached usage next v (w ∷ ws) (n ∷ front) back sound low f is =
     let r = reached usage next w ws front back sound.1 low.1 f.2 both.1 in
     let more = leads_more usage next r.from w v (reverse front) k.0 r.leads k.2 k.3 k.4 sound.0 low.0 in
     let turned : reverse front ++ k.0 ∷ [] ≡ reverse (n ∷ front) = ap (λ x. reverse front ++ x ∷ []) both.0 ∙ sym (reverse-append (n ∷ []) front) in
-    record { from = r.from; number = suc r.number; there = r.there; leads = subst (λ l. Leads usage next r.from l v) turned more }
+    record { from = r.from; number = suc r.number; there = r.there; leads = subst (λ l. RecordsLeadBetween usage next r.from l v) turned more }

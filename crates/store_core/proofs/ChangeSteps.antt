@@ -9,23 +9,23 @@ use Rattle.std.specs.Set.{is_member}
 use Rattle.std.specs.Str.{bytes_eq}
 use Rattle.xml_tree.specs.Tree.{Tree, height}
 use Rattle.usage_docs.specs.Services.{document_len}
-use Rattle.doc_names.specs.Equality.{same_id}
+use Rattle.doc_names.specs.NameEquality.{same_id}
 use Rattle.doc_names.specs.Usages.{usage_of}
 use Rattle.doc_names.specs.declared.doc_id.DocId.{DocId}
-use Rattle.edit_ops.specs.Changes.{Fits, edited}
+use Rattle.edit_ops.specs.Changes.{FitsTree, edited}
 use Rattle.edit_ops.specs.declared.change.Change.{Change}
 use Rattle.edit_ops.specs.Notes.{Note, note_of}
 use Rattle.store_core.specs.declared.entry.Entry.{Entry}
 use Rattle.store_core.specs.declared.staged_tree.StagedTree.{StagedTree}
 use Rattle.store_core.specs.declared.step.Step.{Step}
 use Rattle.store_core.specs.declared.step.Step.TheVariants.{Make, Edit, End}
-use Rattle.store_core.specs.State.{State, first_state, retained}
+use Rattle.store_core.specs.State.{State, first_state, retained_notes}
 use Rattle.store_core.specs.Contents.{StoredDocument, Represents, StoreContents as Content}
-use Rattle.store_core.specs.ValidStates.{AreDistinct, IsSoundFor, IsValidState, addresses_in}
-use Rattle.store_core.specs.TreeChanges.{IsStagedIn}
-use Rattle.store_core.specs.DocumentChanges.{Act, Edits, after, act_of, content_after, content_after_act, document_in, held_after, stored_name, with_document}
-use Rattle.store_core.specs.inner.StoreMemory.{IsRenewed, IsStoring, content_in, exchanged, stored_in, holder, len_in, number_in, registered_number, trees_in, uris_in}
-use Rattle.store_core.specs.PreparedChanges.{HasTree, IsPlanned, IsStepOf, Readied, total_of}
+use Rattle.store_core.specs.ValidStates.{AreDistinct, IsSoundDocumentFor, IsValidState, document_addresses}
+use Rattle.store_core.specs.TreeChanges.{IsStagedTreeFor}
+use Rattle.store_core.specs.DocumentChanges.{ChangeKind, Edits, state_after, change_kind, contents_after, contents_after_by_kind, find_document, stored_document_after, stored_id, with_document}
+use Rattle.store_core.specs.inner.StoreMemory.{IsUpdatedEntry, IsConsistentStore, contents_view, registered_after, stored_view, address_holder, entry_len, entry_number, registered_number, unshared_flags, entry_addresses}
+use Rattle.store_core.specs.PreparedChanges.{HasTreeForStep, IsPlanned, IsStepOf, PreparedChange, total_len}
 use Rattle.store_core.proofs.AcceptedChanges.{find-map, sum-first, sum-mapped, sum-put}
 use Rattle.store_core.proofs.DistinctItems.{apart-cut, apart-put, each-append, each-cut, each-left, each-right, each-weaker, one-exchanged, one-filtered}
 use Rattle.store_core.proofs.ChangePremises.{asked}
@@ -36,8 +36,8 @@ use Rattle.store_core.proofs.StateContents.{map-filtered}
 use Rattle.store_core.proofs.Entries.{Around, Known, around, each-mapped, known, none-found}
 use Rattle.store_core.proofs.Holders.{held-apart, held-exchanged, held-less}
 use Rattle.store_core.proofs.SharedTrees.{found-tree}
-use Rattle.store_core.specs.StoreViews.{Room, Stored}
-use Rattle.store_core.specs.inner.ChangePlans.{Steppable, TakesStep}
+use Rattle.store_core.specs.StoreViews.{SpareCapacity, StoreView}
+use Rattle.store_core.specs.inner.ChangePlans.{CanTakeStep, TakesStep}
 
 abbrev Row : Type 0
 Row = DocId × Entry
@@ -51,85 +51,85 @@ find-first : {D : Type 0} (q : D → Bool) (xs ys : List D) (x : D) → AllByRec
 find-first q [] ys x a h = ap (λ b. cond b (Some x) (find q ys)) h
 find-first q (y ∷ xs) ys x a h = ap (λ b. cond b (Some y) (find q (xs ++ x ∷ ys))) a.0 ∙ find-first q xs ys x a.1 h
 
-pub held-found : (es : List Row) (doc : DocId) (v : Entry) → Around es doc v → document_in stored_name (map stored_in es) doc ≡ Some (stored_in (doc, v))
+pub held-found : (es : List Row) (doc : DocId) (v : Entry) → Around es doc v → find_document stored_id (map stored_view es) doc ≡ Some (stored_view (doc, v))
 held-found es doc v r =
     let q : Row → Bool = λ e. same_id doc e.0 in
-    find-map stored_in (λ (h : StoredDocument). same_id doc h.id) es
-    ∙ ap (λ (rows : List Row). option_map stored_in (find q rows)) r.parts
-    ∙ ap (λ (o : Option Row). option_map stored_in o) (find-first q r.before r.behind (doc, v) r.none-before r.passes)
+    find-map stored_view (λ (h : StoredDocument). same_id doc h.id) es
+    ∙ ap (λ (rows : List Row). option_map stored_view (find q rows)) r.parts
+    ∙ ap (λ (o : Option Row). option_map stored_view o) (find-first q r.before r.behind (doc, v) r.none-before r.passes)
 
-pub one-held : (es : List Row) (doc : DocId) (v : Entry) (h : StoredDocument) → Around es doc v → document_in stored_name (map stored_in es) doc ≡ Some h → h ≡ stored_in (doc, v)
-one-held es doc v h r e = same_Some h (stored_in (doc, v)) (sym e ∙ held-found es doc v r)
+pub one-held : (es : List Row) (doc : DocId) (v : Entry) (h : StoredDocument) → Around es doc v → find_document stored_id (map stored_view es) doc ≡ Some h → h ≡ stored_view (doc, v)
+one-held es doc v h r e = same_Some h (stored_view (doc, v)) (sym e ∙ held-found es doc v r)
 
 -- ---- what every store fulfils
 
-pub known-of : (es : List Row) (rs : List (List ℕ × ℕ)) (last total : ℕ) → IsStoring es rs last total → Known es
+pub known-of : (es : List Row) (rs : List (List ℕ × ℕ)) (last total : ℕ) → IsConsistentStore es rs last total → Known es
 known-of es rs last total s = known es last s.kept.0 s.kept.1 s.kept.2
 
-pub around-of : (es : List Row) (rs : List (List ℕ × ℕ)) (last total : ℕ) (doc : DocId) (v : Entry) → IsStoring es rs last total → lookup (same_id doc) es ≡ Some v → Around es doc v
+pub around-of : (es : List Row) (rs : List (List ℕ × ℕ)) (last total : ℕ) (doc : DocId) (v : Entry) → IsConsistentStore es rs last total → lookup (same_id doc) es ≡ Some v → Around es doc v
 around-of es rs last total doc v s h = around es doc v (known-of es rs last total s).names h
 
-pub total-is : (es : List Row) (last : ℕ) → total_of (content_in es last) ≡ sum_by len_in es
-total-is es last = sum-mapped (λ (h : StoredDocument). document_len h.tree) stored_in es
+pub total-is : (es : List Row) (last : ℕ) → total_len (contents_view es last) ≡ sum_by entry_len es
+total-is es last = sum-mapped (λ (h : StoredDocument). document_len h.tree) stored_view es
 
 -- the state after a change that is made
-kept-next : (es rows : List Row) (last : ℕ) (p : Readied) → ((m : State) × Represents (content_in es last) m × IsValidState m) → IsPlanned (content_in es last) p
-    → content_in rows p.note.next ≡ content_after (content_in es last) p.doc p.note.change → (m : State) × Represents (content_in rows p.note.next) m × IsValidState m
+kept-next : (es rows : List Row) (last : ℕ) (p : PreparedChange) → ((m : State) × Represents (contents_view es last) m × IsValidState m) → IsPlanned (contents_view es last) p
+    → contents_view rows p.note.next ≡ contents_after (contents_view es last) p.doc p.note.change → (m : State) × Represents (contents_view rows p.note.next) m × IsValidState m
 kept-next es rows last p kept planned same =
-    let c = content_in es last in
-    let next = keeps c kept.0 p.doc p.note.change p.note (content_after c p.doc p.note.change) kept.1 kept.2 planned.asks planned.made in
-    let m = after kept.0 p.doc p.note.change in
+    let c = contents_view es last in
+    let next = keeps c kept.0 p.doc p.note.change p.note (contents_after c p.doc p.note.change) kept.1 kept.2 planned.asks planned.made in
+    let m = state_after kept.0 p.doc p.note.change in
     (m, subst (λ (d : Content). Represents d m) (sym same) next.0, next.1)
 
-later : (last next : ℕ) (es : List Row) → next ≡ last + 1 → AllByRecursion (λ e. number_in e ≤ last) es → AllByRecursion (λ e. number_in e ≤ next) es
-later last next es e a = each-weaker (λ (r : Row). number_in r ≤ last) (λ (r : Row). number_in r ≤ next) (λ r h. omega (arith, h, e)) es a
+later : (last next : ℕ) (es : List Row) → next ≡ last + 1 → AllByRecursion (λ e. entry_number e ≤ last) es → AllByRecursion (λ e. entry_number e ≤ next) es
+later last next es e a = each-weaker (λ (r : Row). entry_number r ≤ last) (λ (r : Row). entry_number r ≤ next) (λ r h. omega (arith, h, e)) es a
 
-numbers-below : (last n : ℕ) (es : List Row) → n ≡ last + 1 → AllByRecursion (λ e. number_in e ≤ last) es → AllByRecursion (λ t. n ≢ t) (map number_in es)
+numbers-below : (last n : ℕ) (es : List Row) → n ≡ last + 1 → AllByRecursion (λ e. entry_number e ≤ last) es → AllByRecursion (λ t. n ≢ t) (map entry_number es)
 numbers-below last n [] e a = tt
-numbers-below last n (r ∷ es) e a = ((λ (same : n ≡ number_in r). omega (arith, same, e, a.0)), numbers-below last n es e a.1)
+numbers-below last n (r ∷ es) e a = ((λ (same : n ≡ entry_number r). omega (arith, same, e, a.0)), numbers-below last n es e a.1)
 
 abbrev HasLen : Row → Type 0
-HasLen e = e.1.len ≡ len_in e
+HasLen e = e.1.len ≡ entry_len e
 
 -- ---- a creation
 
-made-content : (es : List Row) (last : ℕ) (p : Readied) (key : DocId) (entry : Entry) → p.note.next ≡ last + 1 → IsStepOf (content_in es last) p (Make key entry)
-    → content_in (es ++ (p.doc, entry) ∷ []) p.note.next ≡ content_after (content_in es last) p.doc p.note.change
+made-content : (es : List Row) (last : ℕ) (p : PreparedChange) (key : DocId) (entry : Entry) → p.note.next ≡ last + 1 → IsStepOf (contents_view es last) p (Make key entry)
+    → contents_view (es ++ (p.doc, entry) ∷ []) p.note.next ≡ contents_after (contents_view es last) p.doc p.note.change
 made-content es last p key entry number step =
-    let c = content_in es last in
+    let c = contents_view es last in
     let root = entry.tree.root in
     let new : StoredDocument = record { id = p.doc; tag = c.next; tree = root; notes = [] } in
-    let held : stored_in (p.doc, entry) ≡ new = ap (λ (x : Entry). stored_in (p.doc, x)) step.2 in
-    ap (λ (n : ℕ). content (map stored_in (es ++ (p.doc, entry) ∷ [])) (n + 1)) number
-    ∙ ap (λ (hs : List StoredDocument). content hs (c.next + 1)) (map-append stored_in es ((p.doc, entry) ∷ []))
-    ∙ ap (λ (h : StoredDocument). content (map stored_in es ++ h ∷ []) (c.next + 1)) held
-    ∙ sym (ap (λ (change : Change). content_after c p.doc change) step.1)
+    let held : stored_view (p.doc, entry) ≡ new = ap (λ (x : Entry). stored_view (p.doc, x)) step.2 in
+    ap (λ (n : ℕ). content (map stored_view (es ++ (p.doc, entry) ∷ [])) (n + 1)) number
+    ∙ ap (λ (hs : List StoredDocument). content hs (c.next + 1)) (map-append stored_view es ((p.doc, entry) ∷ []))
+    ∙ ap (λ (h : StoredDocument). content (map stored_view es ++ h ∷ []) (c.next + 1)) held
+    ∙ sym (ap (λ (change : Change). contents_after c p.doc change) step.1)
 
-made-stored : (es : List Row) (rs : List (List ℕ × ℕ)) (last total : ℕ) (p : Readied) (key : DocId) (entry : Entry) (rows : List (List ℕ × ℕ))
-    → IsStoring es rs last total → IsPlanned (content_in es last) p → IsStepOf (content_in es last) p (Make key entry)
-    → ((uri : List ℕ) → registered_number rows uri ≡ exchanged p.leaves p.enters entry.created (registered_number rs uri) uri)
-    → IsStoring (es ++ (p.doc, entry) ∷ []) rows p.note.next p.total
+made-stored : (es : List Row) (rs : List (List ℕ × ℕ)) (last total : ℕ) (p : PreparedChange) (key : DocId) (entry : Entry) (rows : List (List ℕ × ℕ))
+    → IsConsistentStore es rs last total → IsPlanned (contents_view es last) p → IsStepOf (contents_view es last) p (Make key entry)
+    → ((uri : List ℕ) → registered_number rows uri ≡ registered_after p.leaves p.enters entry.created (registered_number rs uri) uri)
+    → IsConsistentStore (es ++ (p.doc, entry) ∷ []) rows p.note.next p.total
 made-stored es rs last total p key entry rows s planned step reg =
-    let c = content_in es last in
+    let c = contents_view es last in
     let row : Row = (p.doc, entry) in
     let kept = kept-next es (es ++ row ∷ []) last p s.kept planned (made-content es last p key entry planned.number step) in
     let apart = (known (es ++ row ∷ []) p.note.next kept.0 kept.1 kept.2).services in
     let created : entry.created ≡ c.next = ap (λ (x : Entry). x.created) step.2 in
-    let n : number_in row ≡ last + 1 = created in
+    let n : entry_number row ≡ last + 1 = created in
     record {
       kept = kept;
       addresses = λ uri.
           reg uri
-          ∙ ap (λ (us : List (List ℕ)). exchanged us p.enters entry.created (registered_number rs uri) uri) step.3
-          ∙ ap (λ (us : List (List ℕ)). exchanged [] us entry.created (registered_number rs uri) uri) step.4
-          ∙ ap (λ (o : Option ℕ). exchanged [] (uris_in row) entry.created o uri) (s.addresses uri ∙ ap (λ (ds : List Row). holder ds uri) (sym (append-nil es)))
-          ∙ held-apart uris_in number_in es [] row uri apart;
+          ∙ ap (λ (us : List (List ℕ)). registered_after us p.enters entry.created (registered_number rs uri) uri) step.3
+          ∙ ap (λ (us : List (List ℕ)). registered_after [] us entry.created (registered_number rs uri) uri) step.4
+          ∙ ap (λ (o : Option ℕ). registered_after [] (entry_addresses row) entry.created o uri) (s.addresses uri ∙ ap (λ (ds : List Row). address_holder ds uri) (sym (append-nil es)))
+          ∙ held-apart entry_addresses entry_number es [] row uri apart;
       numbers =
-          subst (λ (ns : List ℕ). AreDistinct ns) (sym (map-append number_in es (row ∷ [])))
-          (apart-put (map number_in es) [] (number_in row) (subst (λ (ns : List ℕ). AreDistinct ns) (sym (append-nil (map number_in es))) s.numbers)
-          (subst (λ (ns : List ℕ). AllByRecursion (λ t. number_in row ≢ t) ns) (sym (append-nil (map number_in es))) (numbers-below last (number_in row) es n s.given)));
-      given = each-append (λ (r : Row). number_in r ≤ p.note.next) es (row ∷ []) (later last p.note.next es planned.number s.given) (omega (arith, n, planned.number), tt);
-      sum = omega (arith, step.5, total-is es last, sum_by-append len_in es (row ∷ []), sum-first len_in row []);
+          subst (λ (ns : List ℕ). AreDistinct ns) (sym (map-append entry_number es (row ∷ [])))
+          (apart-put (map entry_number es) [] (entry_number row) (subst (λ (ns : List ℕ). AreDistinct ns) (sym (append-nil (map entry_number es))) s.numbers)
+          (subst (λ (ns : List ℕ). AllByRecursion (λ t. entry_number row ≢ t) ns) (sym (append-nil (map entry_number es))) (numbers-below last (entry_number row) es n s.given)));
+      given = each-append (λ (r : Row). entry_number r ≤ p.note.next) es (row ∷ []) (later last p.note.next es planned.number s.given) (omega (arith, n, planned.number), tt);
+      sum = omega (arith, step.5, total-is es last, sum_by-append entry_len es (row ∷ []), sum-first entry_len row []);
       lens = each-append HasLen es (row ∷ []) s.lens (ap (λ (x : Entry). x.len) step.2, tt);
     }
 
@@ -141,48 +141,48 @@ renewed-rows es doc v w r =
     let q : Row → Bool = λ e. same_id doc e.0 in
     ap (λ (rows : List Row). map (λ (e : Row). cond (q e) (f e) e) rows) r.parts ∙ one-exchanged q f r.before r.behind (doc, v) r.none-before r.passes r.none-behind
 
-renewed-held : (doc : DocId) (v w : Entry) (number len : ℕ) (kept : Note) (change : Change) → IsRenewed v number kept len w → kept.change ≡ change → kept ≡ note_of v.tag number v.tree.root change
-    → stored_in (doc, w) ≡ held_after number change (stored_in (doc, v))
+renewed-held : (doc : DocId) (v w : Entry) (number len : ℕ) (kept : Note) (change : Change) → IsUpdatedEntry v number kept len w → kept.change ≡ change → kept ≡ note_of v.tag number v.tree.root change
+    → stored_view (doc, w) ≡ stored_document_after number change (stored_view (doc, v))
 renewed-held doc v w number len kept change new same note =
     let held : ℕ → Tree → List Note → StoredDocument = λ n x ns. record { id = doc; tag = n; tree = x; notes = ns } in
     ap (λ (n : ℕ). held n w.tree.root w.notes) new.tag
     ∙ ap (λ (x : Tree). held number x w.notes) (new.tree ∙ ap (λ (x : Change). edited v.tree.root x) same)
-    ∙ ap (λ (ns : List Note). held number (edited v.tree.root change) ns) (new.notes ∙ ap (λ (n : Note). retained (v.notes ++ n ∷ [])) note)
+    ∙ ap (λ (ns : List Note). held number (edited v.tree.root change) ns) (new.notes ∙ ap (λ (n : Note). retained_notes (v.notes ++ n ∷ [])) note)
 
-renewed-content : (es : List Row) (last : ℕ) (p : Readied) (v w : Entry) (len : ℕ) (kept : Note) (h : StoredDocument) (r : Around es p.doc v)
-    → p.note.next ≡ last + 1 → act_of p.note.change ≡ Edits → h ≡ stored_in (p.doc, v) → kept.change ≡ p.note.change → kept ≡ note_of h.tag (last + 1) h.tree p.note.change → IsRenewed v p.note.next kept len w
-    → content_in (r.before ++ (p.doc, w) ∷ r.behind) p.note.next ≡ content_after (content_in es last) p.doc p.note.change
+renewed-content : (es : List Row) (last : ℕ) (p : PreparedChange) (v w : Entry) (len : ℕ) (kept : Note) (h : StoredDocument) (r : Around es p.doc v)
+    → p.note.next ≡ last + 1 → change_kind p.note.change ≡ Edits → h ≡ stored_view (p.doc, v) → kept.change ≡ p.note.change → kept ≡ note_of h.tag (last + 1) h.tree p.note.change → IsUpdatedEntry v p.note.next kept len w
+    → contents_view (r.before ++ (p.doc, w) ∷ r.behind) p.note.next ≡ contents_after (contents_view es last) p.doc p.note.change
 renewed-content es last p v w len kept h r number edits same changed note new =
-    let c = content_in es last in
+    let c = contents_view es last in
     let change = p.note.change in
-    let g : StoredDocument → StoredDocument = held_after c.next change in
+    let g : StoredDocument → StoredDocument = stored_document_after c.next change in
     let q : StoredDocument → Bool = λ x. same_id p.doc x.id in
-    let before = map stored_in r.before in
-    let behind = map stored_in r.behind in
+    let before = map stored_view r.before in
+    let behind = map stored_view r.behind in
     let of_doc : Row → DocId = λ e. e.0 in
-    let nones : (rows : List Row) → AllByRecursion (λ e. same_id p.doc e.0 ≡ false) rows → AllByRecursion (λ x. q x ≡ false) (map stored_in rows) = λ rows a. each-mapped (λ (x : StoredDocument). q x ≡ false) stored_in rows a in
-    let renewed : IsRenewed v c.next kept len w = subst (λ (n : ℕ). IsRenewed v n kept len w) number new in
-    let held : stored_in (p.doc, w) ≡ g (stored_in (p.doc, v)) =
+    let nones : (rows : List Row) → AllByRecursion (λ e. same_id p.doc e.0 ≡ false) rows → AllByRecursion (λ x. q x ≡ false) (map stored_view rows) = λ rows a. each-mapped (λ (x : StoredDocument). q x ≡ false) stored_view rows a in
+    let renewed : IsUpdatedEntry v c.next kept len w = subst (λ (n : ℕ). IsUpdatedEntry v n kept len w) number new in
+    let held : stored_view (p.doc, w) ≡ g (stored_view (p.doc, v)) =
     renewed-held p.doc v w c.next len kept change renewed changed (note ∙ ap (λ (x : StoredDocument). note_of x.tag (last + 1) x.tree change) same) in
-    let all : with_document stored_name g c.documents p.doc ≡ before ++ g (stored_in (p.doc, v)) ∷ behind =
-    ap (λ (hs : List StoredDocument). map (λ (x : StoredDocument). cond (q x) (g x) x) hs) (ap (map stored_in) r.parts ∙ map-append stored_in r.before ((p.doc, v) ∷ r.behind))
-    ∙ one-exchanged q g before behind (stored_in (p.doc, v)) (nones r.before r.none-before) r.passes (nones r.behind r.none-behind) in
-    ap (λ (n : ℕ). content (map stored_in (r.before ++ (p.doc, w) ∷ r.behind)) (n + 1)) number
-    ∙ ap (λ (hs : List StoredDocument). content hs (c.next + 1)) (map-append stored_in r.before ((p.doc, w) ∷ r.behind) ∙ ap (λ (x : StoredDocument). before ++ x ∷ behind) held ∙ sym all)
-    ∙ sym (ap (λ (act : Act). content_after_act c p.doc change act) edits)
+    let all : with_document stored_id g c.documents p.doc ≡ before ++ g (stored_view (p.doc, v)) ∷ behind =
+    ap (λ (hs : List StoredDocument). map (λ (x : StoredDocument). cond (q x) (g x) x) hs) (ap (map stored_view) r.parts ∙ map-append stored_view r.before ((p.doc, v) ∷ r.behind))
+    ∙ one-exchanged q g before behind (stored_view (p.doc, v)) (nones r.before r.none-before) r.passes (nones r.behind r.none-behind) in
+    ap (λ (n : ℕ). content (map stored_view (r.before ++ (p.doc, w) ∷ r.behind)) (n + 1)) number
+    ∙ ap (λ (hs : List StoredDocument). content hs (c.next + 1)) (map-append stored_view r.before ((p.doc, w) ∷ r.behind) ∙ ap (λ (x : StoredDocument). before ++ x ∷ behind) held ∙ sym all)
+    ∙ sym (ap (λ (act : ChangeKind). contents_after_by_kind c p.doc change act) edits)
 
-renewed-stored : (es : List Row) (rs : List (List ℕ × ℕ)) (last total : ℕ) (p : Readied) (staged : StagedTree) (kept : Note) (len : ℕ) (v w : Entry) (rows : List (List ℕ × ℕ))
-    → IsStoring es rs last total → IsPlanned (content_in es last) p → IsStepOf (content_in es last) p (Edit staged kept len) → lookup (same_id p.doc) es ≡ Some v → IsRenewed v p.note.next kept len w
-    → ((uri : List ℕ) → registered_number rows uri ≡ exchanged p.leaves p.enters w.created (registered_number rs uri) uri)
-    → (content_in (map (λ e. cond (same_id p.doc e.0) (e.0, w) e) es) p.note.next ≡ content_after (content_in es last) p.doc p.note.change)
-    × IsStoring (map (λ e. cond (same_id p.doc e.0) (e.0, w) e) es) rows p.note.next p.total
+renewed-stored : (es : List Row) (rs : List (List ℕ × ℕ)) (last total : ℕ) (p : PreparedChange) (staged : StagedTree) (kept : Note) (len : ℕ) (v w : Entry) (rows : List (List ℕ × ℕ))
+    → IsConsistentStore es rs last total → IsPlanned (contents_view es last) p → IsStepOf (contents_view es last) p (Edit staged kept len) → lookup (same_id p.doc) es ≡ Some v → IsUpdatedEntry v p.note.next kept len w
+    → ((uri : List ℕ) → registered_number rows uri ≡ registered_after p.leaves p.enters w.created (registered_number rs uri) uri)
+    → (contents_view (map (λ e. cond (same_id p.doc e.0) (e.0, w) e) es) p.note.next ≡ contents_after (contents_view es last) p.doc p.note.change)
+    × IsConsistentStore (map (λ e. cond (same_id p.doc e.0) (e.0, w) e) es) rows p.note.next p.total
 renewed-stored es rs last total p staged kept len v w rows s planned step found new reg =
-    let c = content_in es last in
+    let c = contents_view es last in
     let r = around-of es rs last total p.doc v s found in
     let old : Row = (p.doc, v) in
     let row : Row = (p.doc, w) in
     let h = step.0 in
-    let same : h ≡ stored_in old = one-held es p.doc v h r step.1 in
+    let same : h ≡ stored_view old = one-held es p.doc v h r step.1 in
     let tree : h.tree ≡ v.tree.root = ap (λ (x : StoredDocument). x.tree) same in
     let all = renewed-rows es p.doc v w r in
     let changed : kept.change ≡ p.note.change = ap (λ (n : Note). n.change) step.5 in
@@ -191,86 +191,86 @@ renewed-stored es rs last total p staged kept len v w rows s planned step found 
     let stands = renewed-content es last p v w len kept h r planned.number step.2 same changed (step.5 ∙ step.6) new in
     let next = kept-next es (r.before ++ row ∷ r.behind) last p s.kept planned stands in
     let apart = (known (r.before ++ row ∷ r.behind) p.note.next next.0 next.1 next.2).services in
-    let before-apart : AreDistinct (flat_map uris_in (r.before ++ old ∷ r.behind)) = subst (λ (ds : List Row). AreDistinct (flat_map uris_in ds)) r.parts (known-of es rs last total s).services in
-    let given = subst (λ (ds : List Row). AllByRecursion (λ e. number_in e ≤ p.note.next) ds) r.parts (later last p.note.next es planned.number s.given) in
-    let given-behind = each-right (λ (e : Row). number_in e ≤ p.note.next) r.before (old ∷ r.behind) given in
+    let before-apart : AreDistinct (flat_map entry_addresses (r.before ++ old ∷ r.behind)) = subst (λ (ds : List Row). AreDistinct (flat_map entry_addresses ds)) r.parts (known-of es rs last total s).services in
+    let given = subst (λ (ds : List Row). AllByRecursion (λ e. entry_number e ≤ p.note.next) ds) r.parts (later last p.note.next es planned.number s.given) in
+    let given-behind = each-right (λ (e : Row). entry_number e ≤ p.note.next) r.before (old ∷ r.behind) given in
     let lens = subst (λ (ds : List Row). AllByRecursion HasLen ds) r.parts s.lens in
     let exchange = step.7 in
-    let was : uris_in old ≡ exchange.0 ++ (p.leaves ++ exchange.1) = ap (λ (x : Tree). addresses_in p.doc.auid x) (sym tree) ∙ exchange.2 in
-    let is : uris_in row ≡ exchange.0 ++ (p.enters ++ exchange.1) = ap (λ (x : Tree). addresses_in p.doc.auid x) now ∙ exchange.3 in
-    let stored : IsStoring (r.before ++ row ∷ r.behind) rows p.note.next p.total = record {
+    let was : entry_addresses old ≡ exchange.0 ++ (p.leaves ++ exchange.1) = ap (λ (x : Tree). document_addresses p.doc.auid x) (sym tree) ∙ exchange.2 in
+    let is : entry_addresses row ≡ exchange.0 ++ (p.enters ++ exchange.1) = ap (λ (x : Tree). document_addresses p.doc.auid x) now ∙ exchange.3 in
+    let stored : IsConsistentStore (r.before ++ row ∷ r.behind) rows p.note.next p.total = record {
       kept = next;
       addresses = λ uri.
           reg uri
-          ∙ ap (λ (o : Option ℕ). exchanged p.leaves p.enters w.created o uri) (s.addresses uri ∙ ap (λ (ds : List Row). holder ds uri) r.parts)
-          ∙ held-exchanged uris_in number_in r.before r.behind old row exchange.0 exchange.1 p.leaves p.enters uri before-apart apart (sym new.created) was is;
+          ∙ ap (λ (o : Option ℕ). registered_after p.leaves p.enters w.created o uri) (s.addresses uri ∙ ap (λ (ds : List Row). address_holder ds uri) r.parts)
+          ∙ held-exchanged entry_addresses entry_number r.before r.behind old row exchange.0 exchange.1 p.leaves p.enters uri before-apart apart (sym new.created) was is;
       numbers =
           subst (λ (ns : List ℕ). AreDistinct ns)
-          (ap (map number_in) r.parts ∙ map-append number_in r.before (old ∷ r.behind) ∙ ap (λ (n : ℕ). map number_in r.before ++ n ∷ map number_in r.behind) (sym new.created) ∙ sym (map-append number_in r.before (row ∷ r.behind)))
+          (ap (map entry_number) r.parts ∙ map-append entry_number r.before (old ∷ r.behind) ∙ ap (λ (n : ℕ). map entry_number r.before ++ n ∷ map entry_number r.behind) (sym new.created) ∙ sym (map-append entry_number r.before (row ∷ r.behind)))
           s.numbers;
-      given = each-append (λ (e : Row). number_in e ≤ p.note.next) r.before (row ∷ r.behind) (each-left (λ (e : Row). number_in e ≤ p.note.next) r.before (old ∷ r.behind) given) (omega (arith, new.created, given-behind.0), given-behind.1);
+      given = each-append (λ (e : Row). entry_number e ≤ p.note.next) r.before (row ∷ r.behind) (each-left (λ (e : Row). entry_number e ≤ p.note.next) r.before (old ∷ r.behind) given) (omega (arith, new.created, given-behind.0), given-behind.1);
       sum =
-          omega (arith, step.8, total-is es last, ap (sum_by len_in) r.parts, sum-put len_in r.before old r.behind, sum-put len_in r.before row r.behind, ap document_len tree, long);
+          omega (arith, step.8, total-is es last, ap (sum_by entry_len) r.parts, sum-put entry_len r.before old r.behind, sum-put entry_len r.before row r.behind, ap document_len tree, long);
       lens = each-append HasLen r.before (row ∷ r.behind) (each-left HasLen r.before (old ∷ r.behind) lens) (new.len ∙ long, (each-right HasLen r.before (old ∷ r.behind) lens).1);
     } in (
-      ap (λ (ds : List Row). content_in ds p.note.next) all ∙ stands,
-      subst (λ (ds : List Row). IsStoring ds rows p.note.next p.total) (sym all) stored,
+      ap (λ (ds : List Row). contents_view ds p.note.next) all ∙ stands,
+      subst (λ (ds : List Row). IsConsistentStore ds rows p.note.next p.total) (sym all) stored,
     )
 
 -- ---- a removal
 
-ended-content : (es : List Row) (last : ℕ) (p : Readied) → p.note.next ≡ last + 1 → IsStepOf (content_in es last) p End
-    → content_in (filter (λ e. not (same_id p.doc e.0)) es) p.note.next ≡ content_after (content_in es last) p.doc p.note.change
+ended-content : (es : List Row) (last : ℕ) (p : PreparedChange) → p.note.next ≡ last + 1 → IsStepOf (contents_view es last) p End
+    → contents_view (filter (λ e. not (same_id p.doc e.0)) es) p.note.next ≡ contents_after (contents_view es last) p.doc p.note.change
 ended-content es last p number step =
-    let c = content_in es last in
+    let c = contents_view es last in
     let others = filter (λ (e : Row). not (same_id p.doc e.0)) es in
-    ap (λ (n : ℕ). content (map stored_in others) (n + 1)) number
-    ∙ ap (λ (hs : List StoredDocument). content hs (c.next + 1)) (map-filtered stored_in (λ (e : Row). not (same_id p.doc e.0)) (λ (h : StoredDocument). not (same_id p.doc h.id)) (λ e. refl) es)
-    ∙ sym (ap (λ (change : Change). content_after c p.doc change) step.2)
+    ap (λ (n : ℕ). content (map stored_view others) (n + 1)) number
+    ∙ ap (λ (hs : List StoredDocument). content hs (c.next + 1)) (map-filtered stored_view (λ (e : Row). not (same_id p.doc e.0)) (λ (h : StoredDocument). not (same_id p.doc h.id)) (λ e. refl) es)
+    ∙ sym (ap (λ (change : Change). contents_after c p.doc change) step.2)
 
-ended-stored : (es : List Row) (rs : List (List ℕ × ℕ)) (last total : ℕ) (p : Readied) (v : Entry) (created : ℕ) (rows : List (List ℕ × ℕ))
-    → IsStoring es rs last total → IsPlanned (content_in es last) p → IsStepOf (content_in es last) p End → lookup (same_id p.doc) es ≡ Some v
-    → ((uri : List ℕ) → registered_number rows uri ≡ exchanged p.leaves p.enters created (registered_number rs uri) uri)
-    → IsStoring (filter (λ e. not (same_id p.doc e.0)) es) rows p.note.next p.total
+ended-stored : (es : List Row) (rs : List (List ℕ × ℕ)) (last total : ℕ) (p : PreparedChange) (v : Entry) (created : ℕ) (rows : List (List ℕ × ℕ))
+    → IsConsistentStore es rs last total → IsPlanned (contents_view es last) p → IsStepOf (contents_view es last) p End → lookup (same_id p.doc) es ≡ Some v
+    → ((uri : List ℕ) → registered_number rows uri ≡ registered_after p.leaves p.enters created (registered_number rs uri) uri)
+    → IsConsistentStore (filter (λ e. not (same_id p.doc e.0)) es) rows p.note.next p.total
 ended-stored es rs last total p v created rows s planned step found reg =
     let r = around-of es rs last total p.doc v s found in
     let old : Row = (p.doc, v) in
     let h = step.0 in
-    let same : h ≡ stored_in old = one-held es p.doc v h r step.1 in
+    let same : h ≡ stored_view old = one-held es p.doc v h r step.1 in
     let tree : h.tree ≡ v.tree.root = ap (λ (x : StoredDocument). x.tree) same in
     let all : filter (λ (e : Row). not (same_id p.doc e.0)) es ≡ r.before ++ r.behind =
     ap (λ (ds : List Row). filter (λ (e : Row). not (same_id p.doc e.0)) ds) r.parts ∙ one-filtered (λ (e : Row). same_id p.doc e.0) r.before r.behind old r.none-before r.passes r.none-behind in
     let next = kept-next es (filter (λ (e : Row). not (same_id p.doc e.0)) es) last p s.kept planned (ended-content es last p planned.number step) in
-    let before-apart : AreDistinct (flat_map uris_in (r.before ++ old ∷ r.behind)) = subst (λ (ds : List Row). AreDistinct (flat_map uris_in ds)) r.parts (known-of es rs last total s).services in
-    let leaves : p.leaves ≡ uris_in old = step.3 ∙ ap (λ (x : Tree). addresses_in p.doc.auid x) tree in
-    let numbers : AreDistinct (map number_in r.before ++ (number_in old ∷ [] ++ map number_in r.behind)) =
-    subst (λ (ns : List ℕ). AreDistinct ns) (ap (map number_in) r.parts ∙ map-append number_in r.before (old ∷ r.behind)) s.numbers in
-    let given = subst (λ (ds : List Row). AllByRecursion (λ e. number_in e ≤ p.note.next) ds) r.parts (later last p.note.next es planned.number s.given) in
+    let before-apart : AreDistinct (flat_map entry_addresses (r.before ++ old ∷ r.behind)) = subst (λ (ds : List Row). AreDistinct (flat_map entry_addresses ds)) r.parts (known-of es rs last total s).services in
+    let leaves : p.leaves ≡ entry_addresses old = step.3 ∙ ap (λ (x : Tree). document_addresses p.doc.auid x) tree in
+    let numbers : AreDistinct (map entry_number r.before ++ (entry_number old ∷ [] ++ map entry_number r.behind)) =
+    subst (λ (ns : List ℕ). AreDistinct ns) (ap (map entry_number) r.parts ∙ map-append entry_number r.before (old ∷ r.behind)) s.numbers in
+    let given = subst (λ (ds : List Row). AllByRecursion (λ e. entry_number e ≤ p.note.next) ds) r.parts (later last p.note.next es planned.number s.given) in
     let lens = subst (λ (ds : List Row). AllByRecursion HasLen ds) r.parts s.lens in
-    subst (λ (ds : List Row). IsStoring ds rows p.note.next p.total) (sym all) (record {
-      kept = subst (λ (ds : List Row). (m : State) × Represents (content_in ds p.note.next) m × IsValidState m) all next;
+    subst (λ (ds : List Row). IsConsistentStore ds rows p.note.next p.total) (sym all) (record {
+      kept = subst (λ (ds : List Row). (m : State) × Represents (contents_view ds p.note.next) m × IsValidState m) all next;
       addresses = λ uri.
           reg uri
-          ∙ ap (λ (us : List (List ℕ)). exchanged us p.enters created (registered_number rs uri) uri) leaves
-          ∙ ap (λ (us : List (List ℕ)). exchanged (uris_in old) us created (registered_number rs uri) uri) step.4
-          ∙ ap (λ (o : Option ℕ). cond (is_member bytes_eq (uris_in old) uri) None o) (s.addresses uri ∙ ap (λ (ds : List Row). holder ds uri) r.parts)
-          ∙ held-less uris_in number_in r.before r.behind old uri before-apart;
-      numbers = subst (λ (ns : List ℕ). AreDistinct ns) (sym (map-append number_in r.before r.behind)) (apart-cut (map number_in r.before) (number_in old ∷ []) (map number_in r.behind) numbers);
-      given = each-cut (λ (e : Row). number_in e ≤ p.note.next) r.before (old ∷ []) r.behind given;
-      sum = omega (arith, step.5, total-is es last, ap (sum_by len_in) r.parts, sum-put len_in r.before old r.behind, ap document_len tree);
+          ∙ ap (λ (us : List (List ℕ)). registered_after us p.enters created (registered_number rs uri) uri) leaves
+          ∙ ap (λ (us : List (List ℕ)). registered_after (entry_addresses old) us created (registered_number rs uri) uri) step.4
+          ∙ ap (λ (o : Option ℕ). cond (is_member bytes_eq (entry_addresses old) uri) None o) (s.addresses uri ∙ ap (λ (ds : List Row). address_holder ds uri) r.parts)
+          ∙ held-less entry_addresses entry_number r.before r.behind old uri before-apart;
+      numbers = subst (λ (ns : List ℕ). AreDistinct ns) (sym (map-append entry_number r.before r.behind)) (apart-cut (map entry_number r.before) (entry_number old ∷ []) (map entry_number r.behind) numbers);
+      given = each-cut (λ (e : Row). entry_number e ≤ p.note.next) r.before (old ∷ []) r.behind given;
+      sum = omega (arith, step.5, total-is es last, ap (sum_by entry_len) r.parts, sum-put entry_len r.before old r.behind, ap document_len tree);
       lens = each-cut HasLen r.before (old ∷ []) r.behind lens;
     })
 
 -- ---- any step
 
-none-held : (rows : List Row) (id : DocId) → AllByRecursion (λ e. same_id id e.0 ≡ false) rows → document_in stored_name (map stored_in rows) id ≡ None
+none-held : (rows : List Row) (id : DocId) → AllByRecursion (λ e. same_id id e.0 ≡ false) rows → find_document stored_id (map stored_view rows) id ≡ None
 none-held [] id a = refl
-none-held (r ∷ rows) id a = ap (λ b. cond b (Some (stored_in r)) (document_in stored_name (map stored_in rows) id)) a.0 ∙ none-held rows id a.1
+none-held (r ∷ rows) id a = ap (λ b. cond b (Some (stored_view r)) (find_document stored_id (map stored_view rows) id)) a.0 ∙ none-held rows id a.1
 
-pub missing-held : (es : List Row) (doc : DocId) → lookup (same_id doc) es ≡ None → document_in stored_name (map stored_in es) doc ≡ None
+pub missing-held : (es : List Row) (doc : DocId) → lookup (same_id doc) es ≡ None → find_document stored_id (map stored_view es) doc ≡ None
 missing-held es doc e = none-held es doc (none-found (same_id doc) es e)
 
-found-entry : (es : List Row) (doc : DocId) (h : StoredDocument) (o : Option Entry) → lookup (same_id doc) es ≡ o → document_in stored_name (map stored_in es) doc ≡ Some h → (v : Entry) × (lookup (same_id doc) es ≡ Some v)
+found-entry : (es : List Row) (doc : DocId) (h : StoredDocument) (o : Option Entry) → lookup (same_id doc) es ≡ o → find_document stored_id (map stored_view es) doc ≡ Some h → (v : Entry) × (lookup (same_id doc) es ≡ Some v)
 found-entry es doc h (Some v) e there = (v, e)
 found-entry es doc h None e there = let missing = missing-held es doc e in cc
 
@@ -279,40 +279,40 @@ nothing-there None e h = cc
 nothing-there (Some h) e g = cc
 
 -- a stored document has an entry
-pub no-entry : (es : List Row) (last : ℕ) (room : Room) (s : Stored) (doc : DocId) → (let x : Stored = record { content = content_in es last; room = room } in x) ≡ s → None ≡ lookup (same_id doc) es → IsSome (document_in stored_name s.content.documents doc) → ⊥
+pub no-entry : (es : List Row) (last : ℕ) (room : SpareCapacity) (s : StoreView) (doc : DocId) → (let x : StoreView = record { content = contents_view es last; room = room } in x) ≡ s → None ≡ lookup (same_id doc) es → IsSome (find_document stored_id s.content.documents doc) → ⊥
 no-entry es last room s doc seen none h =
-    nothing-there (document_in stored_name (map stored_in es) doc) (missing-held es doc (sym none)) (subst (λ (x : Stored). IsSome (document_in stored_name x.content.documents doc)) (sym seen) h)
+    nothing-there (find_document stored_id (map stored_view es) doc) (missing-held es doc (sym none)) (subst (λ (x : StoreView). IsSome (find_document stored_id x.content.documents doc)) (sym seen) h)
 
-pub stored : (es : List Row) (rs : List (List ℕ × ℕ)) (last total : ℕ) (p : Readied) (step : Step) (created : ℕ) (next : List Row) (rows : List (List ℕ × ℕ))
-    → IsStoring es rs last total → IsPlanned (content_in es last) p → IsStepOf (content_in es last) p step → TakesStep (record { entries = es; doc = p.doc; number = p.note.next }) step created next
-    → ((uri : List ℕ) → registered_number rows uri ≡ exchanged p.leaves p.enters created (registered_number rs uri) uri)
-    → (content_in next p.note.next ≡ content_after (content_in es last) p.doc p.note.change) × IsStoring next rows p.note.next p.total
+pub stored : (es : List Row) (rs : List (List ℕ × ℕ)) (last total : ℕ) (p : PreparedChange) (step : Step) (created : ℕ) (next : List Row) (rows : List (List ℕ × ℕ))
+    → IsConsistentStore es rs last total → IsPlanned (contents_view es last) p → IsStepOf (contents_view es last) p step → TakesStep (record { entries = es; doc = p.doc; number = p.note.next }) step created next
+    → ((uri : List ℕ) → registered_number rows uri ≡ registered_after p.leaves p.enters created (registered_number rs uri) uri)
+    → (contents_view next p.note.next ≡ contents_after (contents_view es last) p.doc p.note.change) × IsConsistentStore next rows p.note.next p.total
 stored es rs last total p (Make key entry) created next rows s planned step stepped reg =
     let behind : next ≡ es ++ (p.doc, entry) ∷ [] = stepped.0 ∙ ap (λ (d : DocId). es ++ (d, entry) ∷ []) step.6 in
-    let registered_number-as = λ (uri : List ℕ). reg uri ∙ ap (λ (n : ℕ). exchanged p.leaves p.enters n (registered_number rs uri) uri) stepped.1 in (
-      ap (λ (ds : List Row). content_in ds p.note.next) behind ∙ made-content es last p key entry planned.number step,
-      subst (λ (ds : List Row). IsStoring ds rows p.note.next p.total) (sym behind) (made-stored es rs last total p key entry rows s planned step registered_number-as),
+    let registered_number-as = λ (uri : List ℕ). reg uri ∙ ap (λ (n : ℕ). registered_after p.leaves p.enters n (registered_number rs uri) uri) stepped.1 in (
+      ap (λ (ds : List Row). contents_view ds p.note.next) behind ∙ made-content es last p key entry planned.number step,
+      subst (λ (ds : List Row). IsConsistentStore ds rows p.note.next p.total) (sym behind) (made-stored es rs last total p key entry rows s planned step registered_number-as),
     )
 stored es rs last total p (Edit staged kept len) created next rows s planned step stepped reg =
     let v = stepped.0 in
     let w = stepped.1 in
-    let registered_number-as = λ (uri : List ℕ). reg uri ∙ ap (λ (n : ℕ). exchanged p.leaves p.enters n (registered_number rs uri) uri) stepped.5 in
+    let registered_number-as = λ (uri : List ℕ). reg uri ∙ ap (λ (n : ℕ). registered_after p.leaves p.enters n (registered_number rs uri) uri) stepped.5 in
     let made = renewed-stored es rs last total p staged kept len v w rows s planned step stepped.2 stepped.3 registered_number-as in (
-      ap (λ (ds : List Row). content_in ds p.note.next) stepped.4 ∙ made.0,
-      subst (λ (ds : List Row). IsStoring ds rows p.note.next p.total) (sym stepped.4) made.1,
+      ap (λ (ds : List Row). contents_view ds p.note.next) stepped.4 ∙ made.0,
+      subst (λ (ds : List Row). IsConsistentStore ds rows p.note.next p.total) (sym stepped.4) made.1,
     )
 stored es rs last total p End created next rows s planned step stepped reg =
     let found = found-entry es p.doc step.0 (lookup (same_id p.doc) es) refl step.1 in (
-      ap (λ (ds : List Row). content_in ds p.note.next) stepped ∙ ended-content es last p planned.number step,
-      subst (λ (ds : List Row). IsStoring ds rows p.note.next p.total) (sym stepped) (ended-stored es rs last total p found.0 created rows s planned step found.1 reg),
+      ap (λ (ds : List Row). contents_view ds p.note.next) stepped ∙ ended-content es last p planned.number step,
+      subst (λ (ds : List Row). IsConsistentStore ds rows p.note.next p.total) (sym stepped) (ended-stored es rs last total p found.0 created rows s planned step found.1 reg),
     )
 
 -- ---- a store before any change, and one whose reserved memory alone changed
 
-pub first-storing : (es : List Row) (rs : List (List ℕ × ℕ)) (first last : ℕ) → es ≡ [] → rs ≡ [] → 1 ≤ first → last + 1 ≡ first → IsStoring es rs last 0
+pub first-storing : (es : List Row) (rs : List (List ℕ × ℕ)) (first last : ℕ) → es ≡ [] → rs ≡ [] → 1 ≤ first → last + 1 ≡ first → IsConsistentStore es rs last 0
 first-storing es rs first last none empty h e =
-    subst (λ (ds : List Row). IsStoring ds rs last 0) (sym none)
-    (subst (λ (us : List (List ℕ × ℕ)). IsStoring [] us last 0) (sym empty)
+    subst (λ (ds : List Row). IsConsistentStore ds rs last 0) (sym none)
+    (subst (λ (us : List (List ℕ × ℕ)). IsConsistentStore [] us last 0) (sym empty)
     (record {
       kept = (first_state first, ap (λ (n : ℕ). let made : Content = record { documents = []; next = n } in made) e, kept-first first h);
       addresses = λ uri. refl;
@@ -324,47 +324,47 @@ first-storing es rs first last none empty h e =
 
 -- ---- what a look-up finds
 
-pub low-entry : (es : List Row) (rs : List (List ℕ × ℕ)) (last total : ℕ) (doc : DocId) (v : Entry) → IsStoring es rs last total → lookup (same_id doc) es ≡ Some v → height v.tree.root ≤ 64
+pub low-entry : (es : List Row) (rs : List (List ℕ × ℕ)) (last total : ℕ) (doc : DocId) (v : Entry) → IsConsistentStore es rs last total → lookup (same_id doc) es ≡ Some v → height v.tree.root ≤ 64
 low-entry es rs last total doc v s found =
     let r = around-of es rs last total doc v s found in
     let P : Row → Type 0 = λ e. height e.1.tree.root ≤ 64 in
     (each-right P r.before ((doc, v) ∷ r.behind) (subst (λ (ds : List Row). AllByRecursion P ds) r.parts (known-of es rs last total s).low)).0
 
-pub sound-entry : (es : List Row) (rs : List (List ℕ × ℕ)) (last total : ℕ) (doc : DocId) (v : Entry) → IsStoring es rs last total → lookup (same_id doc) es ≡ Some v → IsSoundFor (usage_of doc.auid) v.tree.root
+pub sound-entry : (es : List Row) (rs : List (List ℕ × ℕ)) (last total : ℕ) (doc : DocId) (v : Entry) → IsConsistentStore es rs last total → lookup (same_id doc) es ≡ Some v → IsSoundDocumentFor (usage_of doc.auid) v.tree.root
 sound-entry es rs last total doc v s found =
     let r = around-of es rs last total doc v s found in
-    sound_held (content_in es last) doc (stored_in (doc, v)) (held-found es doc v r) (all_sound (content_in es last) s.kept.0 s.kept.1 s.kept.2)
+    sound_held (contents_view es last) doc (stored_view (doc, v)) (held-found es doc v r) (all_sound (contents_view es last) s.kept.0 s.kept.1 s.kept.2)
 
-pub len-of : (es : List Row) (rs : List (List ℕ × ℕ)) (last total : ℕ) (doc : DocId) (v : Entry) → IsStoring es rs last total → lookup (same_id doc) es ≡ Some v → v.len ≡ document_len v.tree.root
+pub len-of : (es : List Row) (rs : List (List ℕ × ℕ)) (last total : ℕ) (doc : DocId) (v : Entry) → IsConsistentStore es rs last total → lookup (same_id doc) es ≡ Some v → v.len ≡ document_len v.tree.root
 len-of es rs last total doc v s found =
     let r = around-of es rs last total doc v s found in
     (each-right HasLen r.before ((doc, v) ∷ r.behind) (subst (λ (ds : List Row). AllByRecursion HasLen ds) r.parts s.lens)).0
 
 -- ---- what a step requires
 
-not-there : (es : List Row) (rs : List (List ℕ × ℕ)) (last total : ℕ) (doc : DocId) (o : Option Entry) → IsStoring es rs last total → lookup (same_id doc) es ≡ o → document_in stored_name (map stored_in es) doc ≡ None → lookup (same_id doc) es ≡ None
+not-there : (es : List Row) (rs : List (List ℕ × ℕ)) (last total : ℕ) (doc : DocId) (o : Option Entry) → IsConsistentStore es rs last total → lookup (same_id doc) es ≡ o → find_document stored_id (map stored_view es) doc ≡ None → lookup (same_id doc) es ≡ None
 not-there es rs last total doc None s e missing = e
 not-there es rs last total doc (Some v) s e missing =
-    let there : document_in stored_name (map stored_in es) doc ≡ Some (stored_in (doc, v)) = held-found es doc v (around-of es rs last total doc v s e) in
+    let there : find_document stored_id (map stored_view es) doc ≡ Some (stored_view (doc, v)) = held-found es doc v (around-of es rs last total doc v s e) in
     cc
 
 -- the edit of a retained record fits the entry of its document, and its memory is the one for that
 -- entry's tree
-may-edit : (es : List Row) (rs : List (List ℕ × ℕ)) (last total : ℕ) (p : Readied) (staged : StagedTree) (kept : Note) (len : ℕ) (v : Entry)
-    → IsStoring es rs last total → IsPlanned (content_in es last) p → IsStepOf (content_in es last) p (Edit staged kept len) → lookup (same_id p.doc) es ≡ Some v
-    → Fits v.tree.root kept.change × IsStagedIn v.tree.root kept.change staged
+may-edit : (es : List Row) (rs : List (List ℕ × ℕ)) (last total : ℕ) (p : PreparedChange) (staged : StagedTree) (kept : Note) (len : ℕ) (v : Entry)
+    → IsConsistentStore es rs last total → IsPlanned (contents_view es last) p → IsStepOf (contents_view es last) p (Edit staged kept len) → lookup (same_id p.doc) es ≡ Some v
+    → FitsTree v.tree.root kept.change × IsStagedTreeFor v.tree.root kept.change staged
 may-edit es rs last total p staged kept len v s planned step found =
     let h = step.0 in
     let r = around-of es rs last total p.doc v s found in
     let tree : h.tree ≡ v.tree.root = ap (λ (x : StoredDocument). x.tree) (one-held es p.doc v h r step.1) in
     let changed : p.note.change ≡ kept.change = sym (ap (λ (n : Note). n.change) step.5) in
-    let fits : Fits h.tree p.note.change = (asked (content_in es last) p.doc p.note.change h step.2 step.1 planned.asks).0 in (
-      subst (λ (x : Change). Fits v.tree.root x) changed (subst (λ (x : Tree). Fits x p.note.change) tree fits),
-      subst (λ (x : Change). IsStagedIn v.tree.root x staged) changed (subst (λ (x : Tree). IsStagedIn x p.note.change staged) tree step.3),
+    let fits : FitsTree h.tree p.note.change = (asked (contents_view es last) p.doc p.note.change h step.2 step.1 planned.asks).0 in (
+      subst (λ (x : Change). FitsTree v.tree.root x) changed (subst (λ (x : Tree). FitsTree x p.note.change) tree fits),
+      subst (λ (x : Change). IsStagedTreeFor v.tree.root x staged) changed (subst (λ (x : Tree). IsStagedTreeFor x p.note.change staged) tree step.3),
     )
 
-pub steppable : (es : List Row) (rs : List (List ℕ × ℕ)) (last total : ℕ) (p : Readied) (step : Step) → IsStoring es rs last total → IsPlanned (content_in es last) p → IsStepOf (content_in es last) p step
-    → HasTree step (lookup (same_id p.doc) (trees_in es)) → Steppable es p.doc step
+pub steppable : (es : List Row) (rs : List (List ℕ × ℕ)) (last total : ℕ) (p : PreparedChange) (step : Step) → IsConsistentStore es rs last total → IsPlanned (contents_view es last) p → IsStepOf (contents_view es last) p step
+    → HasTreeForStep step (lookup (same_id p.doc) (unshared_flags es)) → CanTakeStep es p.doc step
 steppable es rs last total p (Make key entry) s planned step has =
     subst (λ (d : DocId). lookup (same_id d) es ≡ None) (sym step.6) (not-there es rs last total p.doc (lookup (same_id p.doc) es) s refl step.0)
 steppable es rs last total p (Edit staged kept len) s planned step has =
@@ -373,5 +373,5 @@ steppable es rs last total p (Edit staged kept len) s planned step has =
     (found.0, found.1, may.0, may.1, has found.0.tree.own (found-tree es p.doc found.0 found.1))
 steppable es rs last total p End s planned step has = tt
 
-pub absent-entry : (es : List Row) (rs : List (List ℕ × ℕ)) (last total : ℕ) (doc : DocId) → IsStoring es rs last total → document_in stored_name (map stored_in es) doc ≡ None → lookup (same_id doc) es ≡ None
+pub absent-entry : (es : List Row) (rs : List (List ℕ × ℕ)) (last total : ℕ) (doc : DocId) → IsConsistentStore es rs last total → find_document stored_id (map stored_view es) doc ≡ None → lookup (same_id doc) es ≡ None
 absent-entry es rs last total doc s missing = not-there es rs last total doc (lookup (same_id doc) es) s refl missing

@@ -8,15 +8,15 @@ use Rattle.std.specs.Map.{lookup}
 use Rattle.xml_tree.specs.Tree.{Tree, height}
 use Rattle.usage_docs.specs.Services.{document_len}
 use Rattle.doc_names.specs.declared.usages.Usage.{Usage}
-use Rattle.doc_names.specs.Equality.{same_id}
+use Rattle.doc_names.specs.NameEquality.{same_id}
 use Rattle.doc_names.specs.declared.doc_id.DocId.{DocId}
 use Rattle.store_core.specs.declared.entry.Entry.{Entry}
 use Rattle.store_core.specs.State.{Document, State}
-use Rattle.store_core.specs.Contents.{StoredDocument, Represents, stored_of, StoreContents as Content}
-use Rattle.store_core.specs.ValidStates.{AreDistinct, IsKept, IsSoundFor, IsValidState, addresses, addresses_in}
+use Rattle.store_core.specs.Contents.{StoredDocument, Represents, stored_document, StoreContents as Content}
+use Rattle.store_core.specs.ValidStates.{AreDistinct, IsValidDocument, IsSoundDocumentFor, IsValidState, all_addresses, document_addresses}
 use Rattle.doc_names.specs.Usages.{usage_of}
-use Rattle.store_core.specs.DocumentChanges.{document_in, stored_name}
-use Rattle.store_core.specs.inner.StoreMemory.{content_in, stored_in, len_in, name_in, uris_in}
+use Rattle.store_core.specs.DocumentChanges.{find_document, stored_id}
+use Rattle.store_core.specs.inner.StoreMemory.{contents_view, stored_view, entry_len, entry_id, entry_addresses}
 use Rattle.store_core.proofs.AcceptedChanges.{sum-mapped}
 use Rattle.store_core.proofs.DistinctItems.{apart-behind, each-weaker}
 use Rattle.doc_names.proofs.SameIds.{other-name, id_exact}
@@ -79,12 +79,12 @@ module _ {K V H X : Type 0} (test : K → Bool) (held : K × V → H) (name : H 
   read-as (x ∷ xs) =
       ap (λ k. option_map read (cond (test k) (Some (held x)) (find (λ h. test (name h)) (map held xs)))) (same x) ∙ read-step x xs (test x.0) (read-as xs)
 
-pub tree-and-tag : (es : List (DocId × Entry)) (doc : DocId) → option_map {U = Tree × ℕ} (λ (h : StoredDocument). (h.tree, h.tag)) (document_in stored_name (map stored_in es) doc) ≡ option_map {U = Tree × ℕ} (λ (v : Entry). (v.tree.root, v.tag)) (lookup (same_id doc) es)
-tree-and-tag es doc = read-as (same_id doc) stored_in stored_name (λ e. refl) (λ (h : StoredDocument). (h.tree, h.tag)) (λ (v : Entry). (v.tree.root, v.tag)) (λ e. refl) es
+pub tree-and-tag : (es : List (DocId × Entry)) (doc : DocId) → option_map {U = Tree × ℕ} (λ (h : StoredDocument). (h.tree, h.tag)) (find_document stored_id (map stored_view es) doc) ≡ option_map {U = Tree × ℕ} (λ (v : Entry). (v.tree.root, v.tag)) (lookup (same_id doc) es)
+tree-and-tag es doc = read-as (same_id doc) stored_view stored_id (λ e. refl) (λ (h : StoredDocument). (h.tree, h.tag)) (λ (v : Entry). (v.tree.root, v.tag)) (λ e. refl) es
 
 -- ---- the entry of a name, among entries of different names
 
-behind-others : (doc key : DocId) (es : List (DocId × Entry)) → same_id doc key ≡ true → AllByRecursion (λ y. key ≢ y) (map name_in es) → AllByRecursion (λ e. same_id doc e.0 ≡ false) es
+behind-others : (doc key : DocId) (es : List (DocId × Entry)) → same_id doc key ≡ true → AllByRecursion (λ y. key ≢ y) (map entry_id es) → AllByRecursion (λ e. same_id doc e.0 ≡ false) es
 behind-others doc key [] p h = tt
 behind-others doc key (e ∷ es) p h = (other-name doc key e.0 (same_id doc e.0) refl p h.0, behind-others doc key es p h.1)
 
@@ -96,56 +96,56 @@ pub record Around (es : List (DocId × Entry)) (doc : DocId) (v : Entry) : Type 
   pub none-before : AllByRecursion (λ e. same_id doc e.0 ≡ false) before
   pub none-behind : AllByRecursion (λ e. same_id doc e.0 ≡ false) behind
 
-pub around : (es : List (DocId × Entry)) (doc : DocId) (v : Entry) → AreDistinct (map name_in es) → lookup (same_id doc) es ≡ Some v → Around es doc v
+pub around : (es : List (DocId × Entry)) (doc : DocId) (v : Entry) → AreDistinct (map entry_id es) → lookup (same_id doc) es ≡ Some v → Around es doc v
 around es doc v apart h =
     let s = found-at (same_id doc) es v h in
     let same : s.key ≡ doc = sym (id_exact doc s.key s.passes) in
-    let names : AreDistinct (map name_in s.before ++ s.key ∷ map name_in s.behind) =
-    subst (λ (xs : List DocId). AreDistinct xs) (ap (map name_in) s.parts ∙ map-append name_in s.before ((s.key, v) ∷ s.behind)) apart in
+    let names : AreDistinct (map entry_id s.before ++ s.key ∷ map entry_id s.behind) =
+    subst (λ (xs : List DocId). AreDistinct xs) (ap (map entry_id) s.parts ∙ map-append entry_id s.before ((s.key, v) ∷ s.behind)) apart in
     record {
       before = s.before;
       behind = s.behind;
       parts = s.parts ∙ ap (λ (k : DocId). s.before ++ (k, v) ∷ s.behind) same;
       passes = subst (λ (k : DocId). same_id doc k ≡ true) same s.passes;
       none-before = s.none;
-      none-behind = behind-others doc s.key s.behind s.passes (apart-behind (map name_in s.before) (map name_in s.behind) s.key names);
+      none-behind = behind-others doc s.key s.behind s.passes (apart-behind (map entry_id s.before) (map entry_id s.behind) s.key names);
     }
 
 -- ---- what a valid state says of the entries of a store that represents it
 
 pub record Known (es : List (DocId × Entry)) : Type 0 where
-  pub names : AreDistinct (map name_in es)
-  pub services : AreDistinct (flat_map uris_in es)
+  pub names : AreDistinct (map entry_id es)
+  pub services : AreDistinct (flat_map entry_addresses es)
   pub low : AllByRecursion (λ e. height e.1.tree.root ≤ 64) es
   pub few : length es ≤ 1000
-  pub room : sum_by len_in es ≤ 33554432
+  pub room : sum_by entry_len es ≤ 33554432
 
-low-of : (usage : Option Usage) (t : Tree) → IsSoundFor usage t → height t ≤ 64
+low-of : (usage : Option Usage) (t : Tree) → IsSoundDocumentFor usage t → height t ≤ 64
 low-of None t h = absurd h
 low-of (Some usage) t h = h.low
 
 -- what holds of the present tree of each document holds of each entry's tree
-each-tree : (P : Tree → Type 0) (m : State) (es : List (DocId × Entry)) → map stored_in es ≡ map stored_of m.documents → ((d : Document) → IsKept m.next d → P d.now.tree) → AllByRecursion (IsKept m.next) m.documents → AllByRecursion (λ e. P e.1.tree.root) es
+each-tree : (P : Tree → Type 0) (m : State) (es : List (DocId × Entry)) → map stored_view es ≡ map stored_document m.documents → ((d : Document) → IsValidDocument m.next d → P d.now.tree) → AllByRecursion (IsValidDocument m.next) m.documents → AllByRecursion (λ e. P e.1.tree.root) es
 each-tree P m es same by k =
     let Q : StoredDocument → Type 0 = λ h. P h.tree in
-    let kept : Document → Type 0 = λ d. IsKept m.next d in
+    let kept : Document → Type 0 = λ d. IsValidDocument m.next d in
     let held : Document → Type 0 = λ d. P d.now.tree in
-    each-unmapped Q stored_in es (subst (λ (hs : List StoredDocument). AllByRecursion Q hs) (sym same) (each-mapped Q stored_of m.documents (each-weaker kept held by m.documents k)))
+    each-unmapped Q stored_view es (subst (λ (hs : List StoredDocument). AllByRecursion Q hs) (sym same) (each-mapped Q stored_document m.documents (each-weaker kept held by m.documents k)))
 
-pub known : (es : List (DocId × Entry)) (last : ℕ) (m : State) → Represents (content_in es last) m → IsValidState m → Known es
+pub known : (es : List (DocId × Entry)) (last : ℕ) (m : State) → Represents (contents_view es last) m → IsValidState m → Known es
 known es last m s k =
     let ds = m.documents in
-    let same : map stored_in es ≡ map stored_of ds = ap (λ (c : Content). c.documents) s in
+    let same : map stored_view es ≡ map stored_document ds = ap (λ (c : Content). c.documents) s in
     let name : StoredDocument → DocId = λ h. h.id in
-    let uris : StoredDocument → List (List ℕ) = λ h. addresses_in h.id.auid h.tree in
+    let uris : StoredDocument → List (List ℕ) = λ h. document_addresses h.id.auid h.tree in
     let len : StoredDocument → ℕ = λ h. document_len h.tree in
-    let names : map name_in es ≡ map (λ (d : Document). d.id) ds = sym (mapped name stored_in es) ∙ ap (map name) same ∙ mapped name stored_of ds in
-    let services : flat_map uris_in es ≡ addresses ds = sym (flat_map-map uris stored_in es) ∙ ap (flat_map uris) same ∙ flat_map-map uris stored_of ds in
-    let lens : sum_by len_in es ≡ sum_by (λ (d : Document). document_len d.now.tree) ds = sym (sum-mapped len stored_in es) ∙ ap (sum_by len) same ∙ sum-mapped len stored_of ds in
+    let names : map entry_id es ≡ map (λ (d : Document). d.id) ds = sym (mapped name stored_view es) ∙ ap (map name) same ∙ mapped name stored_document ds in
+    let services : flat_map entry_addresses es ≡ all_addresses ds = sym (flat_map-map uris stored_view es) ∙ ap (flat_map uris) same ∙ flat_map-map uris stored_document ds in
+    let lens : sum_by entry_len es ≡ sum_by (λ (d : Document). document_len d.now.tree) ds = sym (sum-mapped len stored_view es) ∙ ap (sum_by len) same ∙ sum-mapped len stored_document ds in
     record {
       names = subst (λ (xs : List DocId). AreDistinct xs) (sym names) k.names;
       services = subst (λ (xs : List (List ℕ)). AreDistinct xs) (sym services) k.services;
       low = each-tree (λ t. height t ≤ 64) m es same (λ d h. low-of (usage_of d.id.auid) d.now.tree h.sound.0) k.documents;
-      few = omega (arith, k.few, ap (λ (hs : List StoredDocument). length hs) same, length-map es stored_in, length-map ds stored_of);
+      few = omega (arith, k.few, ap (λ (hs : List StoredDocument). length hs) same, length-map es stored_view, length-map ds stored_document);
       room = omega (arith, k.room, lens);
     }

@@ -2,12 +2,12 @@
 use Rattle.std.proofs.Common.{◌≡◌, ℕ, Bool, true, false, cond, not, List, [], ◌∷◌, ◌++◌, find, map, filter, None, Some, refl, sym, ap, ◌∙◌}
 use Rattle.std.proofs.lemmas.Option.{same_Some}
 use Rattle.xml_tree.specs.Tree.{Tree}
-use Rattle.doc_names.specs.Equality.{same_id}
+use Rattle.doc_names.specs.NameEquality.{same_id}
 use Rattle.doc_names.specs.declared.doc_id.DocId.{DocId}
 use Rattle.doc_names.proofs.SameIds.{id_self}
 use Rattle.edit_ops.specs.declared.change.Change.{Change}
 use Rattle.edit_ops.specs.declared.change.Change.TheVariants.{CreateDocument, RemoveDocument}
-use Rattle.store_core.specs.DocumentChanges.{Act, Edits, act_of, content_after, content_after_act, document_in, held_after, stored_name, without_document}
+use Rattle.store_core.specs.DocumentChanges.{ChangeKind, Edits, change_kind, contents_after, contents_after_by_kind, find_document, stored_document_after, stored_id, without_document}
 use Rattle.store_core.specs.Contents.{StoredDocument, StoreContents as Content}
 
 -- ---- the documents with one replaced, with one more, and without one
@@ -61,26 +61,26 @@ others_more id (d ∷ ds) new own = by (same_id id d.id) refl (others_more id ds
 
 -- ---- after a change
 
-pub by_act : (c : Content) (id : DocId) (change : Change) (act : Act) → act_of change ≡ act → content_after_act c id change act ≡ content_after c id change
-by_act c id change act is = ap (λ (a : Act). content_after_act c id change a) (sym is)
+pub by_act : (c : Content) (id : DocId) (change : Change) (act : ChangeKind) → change_kind change ≡ act → contents_after_by_kind c id change act ≡ contents_after c id change
+by_act c id change act is = ap (λ (a : ChangeKind). contents_after_by_kind c id change a) (sym is)
 
-pub edited_there : (c : Content) (id : DocId) (change : Change) (h : StoredDocument) → act_of change ≡ Edits → document_in stored_name c.documents id ≡ Some h → document_in stored_name (content_after c id change).documents id ≡ Some (held_after c.next change h)
+pub edited_there : (c : Content) (id : DocId) (change : Change) (h : StoredDocument) → change_kind change ≡ Edits → find_document stored_id c.documents id ≡ Some h → find_document stored_id (contents_after c id change).documents id ≡ Some (stored_document_after c.next change h)
 edited_there c id change h acts there =
-    ap (λ (x : Content). document_in stored_name x.documents id) (sym (by_act c id change Edits acts)) ∙ found_with (held_after c.next change) (λ d. refl) id c.documents h there
+    ap (λ (x : Content). find_document stored_id x.documents id) (sym (by_act c id change Edits acts)) ∙ found_with (stored_document_after c.next change) (λ d. refl) id c.documents h there
 
 abbrev pub new_held : DocId → ℕ → Tree → StoredDocument
 new_held id tag t = record { id = id; tag = tag; tree = t; notes = [] }
 
-pub made_there : (c : Content) (id : DocId) (t : Tree) → document_in stored_name c.documents id ≡ None → document_in stored_name (content_after c id (CreateDocument t)).documents id ≡ Some (new_held id c.next t)
+pub made_there : (c : Content) (id : DocId) (t : Tree) → find_document stored_id c.documents id ≡ None → find_document stored_id (contents_after c id (CreateDocument t)).documents id ≡ Some (new_held id c.next t)
 made_there c id t none = found_more id c.documents (new_held id c.next t) none (id_self id)
 
-pub removed_there : (c : Content) (id : DocId) → document_in stored_name (content_after c id RemoveDocument).documents id ≡ None
+pub removed_there : (c : Content) (id : DocId) → find_document stored_id (contents_after c id RemoveDocument).documents id ≡ None
 removed_there c id = found_without id c.documents
 
 -- the others after an edit, and after a creation
-pub same_others : (c : Content) (id : DocId) (change : Change) → act_of change ≡ Edits → without_document stored_name (content_after c id change).documents id ≡ without_document stored_name c.documents id
+pub same_others : (c : Content) (id : DocId) (change : Change) → change_kind change ≡ Edits → without_document stored_id (contents_after c id change).documents id ≡ without_document stored_id c.documents id
 same_others c id change acts =
-    ap (λ (x : Content). without_document stored_name x.documents id) (sym (by_act c id change Edits acts)) ∙ others_with (held_after c.next change) (λ d. refl) id c.documents
+    ap (λ (x : Content). without_document stored_id x.documents id) (sym (by_act c id change Edits acts)) ∙ others_with (stored_document_after c.next change) (λ d. refl) id c.documents
 
-pub same_others_more : (c : Content) (id : DocId) (t : Tree) → without_document stored_name (content_after c id (CreateDocument t)).documents id ≡ without_document stored_name c.documents id
+pub same_others_more : (c : Content) (id : DocId) (t : Tree) → without_document stored_id (contents_after c id (CreateDocument t)).documents id ≡ without_document stored_id c.documents id
 same_others_more c id t = others_more id c.documents (new_held id c.next t) (id_self id)

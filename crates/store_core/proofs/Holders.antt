@@ -9,7 +9,7 @@ use Rattle.std.specs.Set.{is_member}
 use Rattle.std.specs.Str.{bytes_eq}
 use Rattle.store_core.specs.ValidStates.{AreDistinct}
 use Rattle.std.specs.Option.{option_or as or_else}
-use Rattle.store_core.specs.inner.StoreMemory.{holder_in, is_others}
+use Rattle.store_core.specs.inner.StoreMemory.{first_holder, is_held_by_other}
 use Rattle.store_core.proofs.AdmissionLemmas.{apart-unmix, unlike-all}
 use Rattle.store_core.proofs.DistinctItems.{apart-middle, each-weaker}
 
@@ -43,7 +43,7 @@ or-middle false false c h = cc
 
 module _ {D : Type 0} (own : D → List (List ℕ)) (number : D → ℕ) where
   abbrev Hold : List D → List ℕ → Option ℕ
-  Hold ds k = holder_in own number ds k
+  Hold ds k = first_holder own number ds k
 
   none-holds : (ds : List D) (k : List ℕ) → is_member bytes_eq (flat_map own ds) k ≡ false → Hold ds k ≡ None
   none-holds [] k h = refl
@@ -142,36 +142,36 @@ module _ {D : Type 0} (own : D → List (List ℕ)) (number : D → ℕ) where
 
   -- ---- whether another document has an address
 
-  others-step : (mine : Option ℕ) (n : ℕ) (ds : List D) (k : List ℕ) (b : Bool) → is_others mine (Some n) ≡ true → is_others mine (Hold ds k) ≡ is_member bytes_eq (flat_map own ds) k
-      → is_others mine (cond b (Some n) (Hold ds k)) ≡ (b || is_member bytes_eq (flat_map own ds) k)
+  others-step : (mine : Option ℕ) (n : ℕ) (ds : List D) (k : List ℕ) (b : Bool) → is_held_by_other mine (Some n) ≡ true → is_held_by_other mine (Hold ds k) ≡ is_member bytes_eq (flat_map own ds) k
+      → is_held_by_other mine (cond b (Some n) (Hold ds k)) ≡ (b || is_member bytes_eq (flat_map own ds) k)
   others-step mine n ds k true e by = e
   others-step mine n ds k false e by = by
 
   -- among documents that all count as others
-  pub others-hold : (mine : Option ℕ) (ds : List D) (k : List ℕ) → AllByRecursion (λ d. is_others mine (Some (number d)) ≡ true) ds → is_others mine (Hold ds k) ≡ is_member bytes_eq (flat_map own ds) k
+  pub others-hold : (mine : Option ℕ) (ds : List D) (k : List ℕ) → AllByRecursion (λ d. is_held_by_other mine (Some (number d)) ≡ true) ds → is_held_by_other mine (Hold ds k) ≡ is_member bytes_eq (flat_map own ds) k
   others-hold None [] k a = refl
   others-hold (Some m) [] k a = refl
   others-hold mine (d ∷ ds) k a =
       others-step mine (number d) ds k (is_member bytes_eq (own d) k) a.0 (others-hold mine ds k a.1) ∙ sym (list_any-append (bytes_eq k) (own d) (flat_map own ds))
 
-  mine-step : (n : ℕ) (rest : Option ℕ) (b c : Bool) → (b ≡ true → c ≡ false) → is_others (Some n) rest ≡ c → is_others (Some n) (cond b (Some n) rest) ≡ c
+  mine-step : (n : ℕ) (rest : Option ℕ) (b c : Bool) → (b ≡ true → c ≡ false) → is_held_by_other (Some n) rest ≡ c → is_held_by_other (Some n) (cond b (Some n) rest) ≡ c
   mine-step n rest true c alone e = let h = alone refl in grind (arith, nat_tests)
   mine-step n rest false c alone e = e
 
   -- besides one document
-  pub others-hold-beside : (before behind : List D) (d : D) (k : List ℕ) → AreDistinct (flat_map own (before ++ d ∷ behind)) → AllByRecursion (λ e. is_others (Some (number d)) (Some (number e)) ≡ true) (before ++ behind)
-      → is_others (Some (number d)) (Hold (before ++ d ∷ behind) k) ≡ is_member bytes_eq (flat_map own (before ++ behind)) k
+  pub others-hold-beside : (before behind : List D) (d : D) (k : List ℕ) → AreDistinct (flat_map own (before ++ d ∷ behind)) → AllByRecursion (λ e. is_held_by_other (Some (number d)) (Some (number e)) ≡ true) (before ++ behind)
+      → is_held_by_other (Some (number d)) (Hold (before ++ d ∷ behind) k) ≡ is_member bytes_eq (flat_map own (before ++ behind)) k
   others-hold-beside before behind d k apart others =
-      ap (λ o. is_others (Some (number d)) o) (sym (held-apart before behind d k apart))
+      ap (λ o. is_held_by_other (Some (number d)) o) (sym (held-apart before behind d k apart))
       ∙ mine-step (number d) (Hold (before ++ behind) k) (is_member bytes_eq (own d) k) (is_member bytes_eq (flat_map own (before ++ behind)) k) (own-alone before behind d k apart) (others-hold (Some (number d)) (before ++ behind) k others)
 
   -- no other document has an address of a document whose addresses are distinct from all others
-  pub own-free : (before behind : List D) (d : D) → AreDistinct (flat_map own (before ++ d ∷ behind)) → AllByRecursion (λ e. is_others (Some (number d)) (Some (number e)) ≡ true) (before ++ behind)
-      → AllByRecursion (λ k. is_others (Some (number d)) (Hold (before ++ d ∷ behind) k) ≡ false) (own d)
+  pub own-free : (before behind : List D) (d : D) → AreDistinct (flat_map own (before ++ d ∷ behind)) → AllByRecursion (λ e. is_held_by_other (Some (number d)) (Some (number e)) ≡ true) (before ++ behind)
+      → AllByRecursion (λ k. is_held_by_other (Some (number d)) (Hold (before ++ d ∷ behind) k) ≡ false) (own d)
   own-free before behind d apart others =
       let xs = flat_map own before in
       let zs = flat_map own behind in
-      each-weaker (λ k. AllByRecursion (λ o. k ≢ o) (xs ++ zs)) (λ k. is_others (Some (number d)) (Hold (before ++ d ∷ behind) k) ≡ false)
+      each-weaker (λ k. AllByRecursion (λ o. k ≢ o) (xs ++ zs)) (λ k. is_held_by_other (Some (number d)) (Hold (before ++ d ∷ behind) k) ≡ false)
       (λ k h.
       others-hold-beside before behind d k apart others
       ∙ ap (λ (us : List (List ℕ)). is_member bytes_eq us k) (flat_map-append own before behind)
@@ -179,5 +179,5 @@ module _ {D : Type 0} (own : D → List (List ℕ)) (number : D → ℕ) where
       (own d) (apart-unmix xs (own d) zs (own-beside before behind d apart))
 
 -- numbers that differ
-pub is-other : (m n : ℕ) → m ≢ n → is_others (Some m) (Some n) ≡ true
+pub is-other : (m n : ℕ) → m ≢ n → is_held_by_other (Some m) (Some n) ≡ true
 is-other m n h = grind (arith, nat_tests)

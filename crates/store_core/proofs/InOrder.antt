@@ -24,7 +24,7 @@ abbrev pub placed : Pair → List Pair → List Pair
 placed d [] = d ∷ []
 placed d (e ∷ es) = match_ordering (cmp d.0 e.0) (d ∷ e ∷ es) (d ∷ e ∷ es) (e ∷ placed d es)
 
--- a list sorted by insertion, one after another; AreByUser (specs/Indexes) says what comes of it
+-- a list sorted by insertion, one after another; IsSortedByUser (specs/Indexes) says what comes of it
 abbrev pub in_order : List Pair → List Pair
 in_order [] = []
 in_order (d ∷ ds) = placed d (in_order ds)

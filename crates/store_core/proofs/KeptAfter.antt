@@ -5,17 +5,17 @@ use Rattle.std.proofs.lemmas.List.{append-nil, map-append}
 use Rattle.std.proofs.lemmas.List.Concat.{flat_map-append}
 use Rattle.xml_tree.specs.Tree.{Tree}
 use Rattle.usage_docs.specs.Services.{document_len}
-use Rattle.doc_names.specs.Ids.{IsAddressable}
-use Rattle.doc_names.specs.Equality.{same_id}
+use Rattle.doc_names.specs.DocIds.{IsAddressable}
+use Rattle.doc_names.specs.NameEquality.{same_id}
 use Rattle.doc_names.specs.declared.doc_id.DocId.{DocId}
-use Rattle.edit_ops.specs.Changes.{Fits, edited}
+use Rattle.edit_ops.specs.Changes.{FitsTree, edited}
 use Rattle.edit_ops.specs.declared.change.Change.{Change}
 use Rattle.edit_ops.specs.Notes.{note_of}
 use Rattle.store_core.specs.State.{Document, State, Version, versions, document_after, created, first_state}
-use Rattle.store_core.specs.ValidStates.{AreDistinct, IsKept, IsSoundFor, IsUserDocument, IsValidState, addresses}
+use Rattle.store_core.specs.ValidStates.{AreDistinct, IsValidDocument, IsSoundDocumentFor, IsUserHome, IsValidState, all_addresses}
 use Rattle.doc_names.specs.Usages.{usage_of}
-use Rattle.store_core.specs.DocumentChanges.{Act, Makes, Edits, Removes, act_of, after, after_act}
-use Rattle.store_core.specs.AcceptableChanges.{Suits, SuitsAct}
+use Rattle.store_core.specs.DocumentChanges.{ChangeKind, Makes, Edits, Removes, change_kind, state_after, state_after_by_kind}
+use Rattle.store_core.specs.AcceptableChanges.{IsAcceptable, IsAcceptableByKind}
 use Rattle.store_core.proofs.DistinctItems.{each-append, each-left, each-right, each-weaker, apart-put, apart-cut, apart-behind, split, one-exchanged, one-filtered}
 use Rattle.doc_names.proofs.SameIds.{not-same, other-name}
 
@@ -33,7 +33,7 @@ le-add a n h = omega arith
 
 -- ---- one document
 
-kept-later : (n : ℕ) (d : Document) → IsKept n d → IsKept (n + 1) d
+kept-later : (n : ℕ) (d : Document) → IsValidDocument n d → IsValidDocument (n + 1) d
 kept-later n d k =
     record {
       readable = k.readable;
@@ -43,10 +43,10 @@ kept-later n d k =
       follows = k.follows;
     }
 
-kept-all-later : (n : ℕ) (ds : List Document) → AllByRecursion (IsKept n) ds → AllByRecursion (IsKept (n + 1)) ds
-kept-all-later n ds k = each-weaker (IsKept n) (IsKept (n + 1)) (kept-later n) ds k
+kept-all-later : (n : ℕ) (ds : List Document) → AllByRecursion (IsValidDocument n) ds → AllByRecursion (IsValidDocument (n + 1)) ds
+kept-all-later n ds k = each-weaker (IsValidDocument n) (IsValidDocument (n + 1)) (kept-later n) ds k
 
-kept-created : (id : DocId) (n : ℕ) (root : Tree) → 1 ≤ n → IsAddressable id → IsUserDocument id.home → IsSoundFor (usage_of id.auid) root → IsKept (n + 1) (created id n root)
+kept-created : (id : DocId) (n : ℕ) (root : Tree) → 1 ≤ n → IsAddressable id → IsUserHome id.home → IsSoundDocumentFor (usage_of id.auid) root → IsValidDocument (n + 1) (created id n root)
 kept-created id n root s r u h =
     record {
       readable = r;
@@ -56,7 +56,7 @@ kept-created id n root s r u h =
       follows = refl;
     }
 
-kept-document_after : (n : ℕ) (d : Document) (change : Change) → 1 ≤ n → IsKept n d → Fits d.now.tree change → IsSoundFor (usage_of d.id.auid) (edited d.now.tree change) → IsKept (n + 1) (document_after n d (note_of d.now.tag n d.now.tree change))
+kept-document_after : (n : ℕ) (d : Document) (change : Change) → 1 ≤ n → IsValidDocument n d → FitsTree d.now.tree change → IsSoundDocumentFor (usage_of d.id.auid) (edited d.now.tree change) → IsValidDocument (n + 1) (document_after n d (note_of d.now.tag n d.now.tree change))
 kept-document_after n d change s k fits h =
     record {
       readable = k.readable;
@@ -75,7 +75,7 @@ below-versions : (n : ℕ) (vs : List Version) → AllByRecursion (Dated n) vs �
 below-versions n [] h = tt
 below-versions n (v ∷ vs) h = (below-one n v.tag h.0.1, below-versions n vs h.1)
 
-below-documents : (n : ℕ) (ds : List Document) → AllByRecursion (IsKept n) ds → AllByRecursion (λ t. n ≢ t) (flat_map tags_of ds)
+below-documents : (n : ℕ) (ds : List Document) → AllByRecursion (IsValidDocument n) ds → AllByRecursion (λ t. n ≢ t) (flat_map tags_of ds)
 below-documents n [] k = tt
 below-documents n (d ∷ ds) k = each-append (λ t. n ≢ t) (tags_of d) (flat_map tags_of ds) (below-versions n (versions d) k.0.tags) (below-documents n ds k.1)
 
@@ -96,8 +96,8 @@ none-behind id d (e ∷ es) p h = (other-name id d.id e.id (same_id id e.id) ref
 
 -- ---- a creation
 
-kept-made : (m : State) (id : DocId) (change : Change) (root : Tree) → IsValidState m → SuitsAct m id change (Makes root) → AreDistinct (addresses (after_act m id change (Makes root)).documents)
-    → length (after_act m id change (Makes root)).documents ≤ 1000 → sum_by (λ d. document_len d.now.tree) (after_act m id change (Makes root)).documents ≤ 33554432 → IsValidState (after_act m id change (Makes root))
+kept-made : (m : State) (id : DocId) (change : Change) (root : Tree) → IsValidState m → IsAcceptableByKind m id change (Makes root) → AreDistinct (all_addresses (state_after_by_kind m id change (Makes root)).documents)
+    → length (state_after_by_kind m id change (Makes root)).documents ≤ 1000 → sum_by (λ d. document_len d.now.tree) (state_after_by_kind m id change (Makes root)).documents ≤ 33554432 → IsValidState (state_after_by_kind m id change (Makes root))
 kept-made m id change root k s services few room =
     let ds = m.documents in
     let new = created id m.next root in
@@ -107,7 +107,7 @@ kept-made m id change root k s services few room =
     apart-put (flat_map tags_of ds) [] m.next (subst (λ (xs : List ℕ). AreDistinct xs) (sym (append-nil (flat_map tags_of ds))) k.tags) (subst (λ (xs : List ℕ). AllByRecursion (λ t. m.next ≢ t) xs) (sym (append-nil (flat_map tags_of ds))) (below-documents m.next ds k.documents)) in
     record {
       started = le-add 1 m.next k.started;
-      documents = each-append (IsKept (m.next + 1)) ds (new ∷ []) (kept-all-later m.next ds k.documents) (kept-created id m.next root k.started s.1 s.2 s.3, tt);
+      documents = each-append (IsValidDocument (m.next + 1)) ds (new ∷ []) (kept-all-later m.next ds k.documents) (kept-created id m.next root k.started s.1 s.2 s.3, tt);
       names = subst (λ (xs : List DocId). AreDistinct xs) (sym (map-append name_of ds (new ∷ []))) names;
       tags = subst (λ (xs : List ℕ). AreDistinct xs) (sym (flat_map-append tags_of ds (new ∷ []))) tags;
       services = services;
@@ -125,17 +125,17 @@ pub record Round (m : State) (id : DocId) (d : Document) : Type 0 where
   pub passes : same_id id d.id ≡ true
   pub none-before : AllByRecursion (λ e. same_id id e.id ≡ false) before
   pub none-behind : AllByRecursion (λ e. same_id id e.id ≡ false) behind
-  pub kept-before : AllByRecursion (IsKept m.next) before
-  pub kept : IsKept m.next d
-  pub kept-behind : AllByRecursion (IsKept m.next) behind
+  pub kept-before : AllByRecursion (IsValidDocument m.next) before
+  pub kept : IsValidDocument m.next d
+  pub kept-behind : AllByRecursion (IsValidDocument m.next) behind
   pub names : AreDistinct (map name_of before ++ d.id ∷ map name_of behind)
   pub tags : AreDistinct (flat_map tags_of before ++ (tags_of d ++ flat_map tags_of behind))
 
 pub round : (m : State) (id : DocId) (d : Document) → IsValidState m → find (λ e. same_id id e.id) m.documents ≡ Some d → Round m id d
 round m id d k h =
     let s = split (λ (e : Document). same_id id e.id) m.documents d h in
-    let all : AllByRecursion (IsKept m.next) (s.before ++ d ∷ s.behind) = subst (λ (ds : List Document). AllByRecursion (IsKept m.next) ds) s.parts k.documents in
-    let right = each-right (IsKept m.next) s.before (d ∷ s.behind) all in
+    let all : AllByRecursion (IsValidDocument m.next) (s.before ++ d ∷ s.behind) = subst (λ (ds : List Document). AllByRecursion (IsValidDocument m.next) ds) s.parts k.documents in
+    let right = each-right (IsValidDocument m.next) s.before (d ∷ s.behind) all in
     let names : AreDistinct (map name_of s.before ++ d.id ∷ map name_of s.behind) =
     subst (λ (xs : List DocId). AreDistinct xs) (ap (map name_of) s.parts ∙ map-append name_of s.before (d ∷ s.behind)) k.names in
     record {
@@ -145,7 +145,7 @@ round m id d k h =
       passes = s.passes;
       none-before = s.none;
       none-behind = none-behind id d s.behind s.passes (apart-behind (map name_of s.before) (map name_of s.behind) d.id names);
-      kept-before = each-left (IsKept m.next) s.before (d ∷ s.behind) all;
+      kept-before = each-left (IsValidDocument m.next) s.before (d ∷ s.behind) all;
       kept = right.0;
       kept-behind = right.1;
       names = names;
@@ -166,21 +166,21 @@ found-and : (m : State) (id : DocId) (P : Document → Type 0) (o : Option Docum
 found-and m id P None e h = absurd h
 found-and m id P (Some d) e h = record { document = d; found = e; holds = h }
 
-kept-edited : (m : State) (id : DocId) (change : Change) → IsValidState m → SuitsAct m id change Edits → AreDistinct (addresses (after_act m id change Edits).documents)
-    → length (after_act m id change Edits).documents ≤ 1000 → sum_by (λ d. document_len d.now.tree) (after_act m id change Edits).documents ≤ 33554432 → IsValidState (after_act m id change Edits)
+kept-edited : (m : State) (id : DocId) (change : Change) → IsValidState m → IsAcceptableByKind m id change Edits → AreDistinct (all_addresses (state_after_by_kind m id change Edits).documents)
+    → length (state_after_by_kind m id change Edits).documents ≤ 1000 → sum_by (λ d. document_len d.now.tree) (state_after_by_kind m id change Edits).documents ≤ 33554432 → IsValidState (state_after_by_kind m id change Edits)
 kept-edited m id change k s services few room =
-    let f = found-and m id (λ d. Fits d.now.tree change × IsSoundFor (usage_of d.id.auid) (edited d.now.tree change)) (find (λ e. same_id id e.id) m.documents) refl s in
+    let f = found-and m id (λ d. FitsTree d.now.tree change × IsSoundDocumentFor (usage_of d.id.auid) (edited d.now.tree change)) (find (λ e. same_id id e.id) m.documents) refl s in
     let d = f.document in
     let r = round m id d k f.found in
     let update_entry : Document → Document = λ e. document_after m.next e (note_of e.now.tag m.next e.now.tree change) in
-    let docs : (after_act m id change Edits).documents ≡ r.before ++ update_entry d ∷ r.behind =
+    let docs : (state_after_by_kind m id change Edits).documents ≡ r.before ++ update_entry d ∷ r.behind =
     ap (λ (ds : List Document). map (λ e. cond (same_id id e.id) (update_entry e) e) ds) r.parts
     ∙ one-exchanged (λ (e : Document). same_id id e.id) update_entry r.before r.behind d r.none-before r.passes r.none-behind in
     record {
       started = le-add 1 m.next k.started;
       documents =
-          subst (λ (ds : List Document). AllByRecursion (IsKept (m.next + 1)) ds) (sym docs)
-          (each-append (IsKept (m.next + 1)) r.before (update_entry d ∷ r.behind) (kept-all-later m.next r.before r.kept-before)
+          subst (λ (ds : List Document). AllByRecursion (IsValidDocument (m.next + 1)) ds) (sym docs)
+          (each-append (IsValidDocument (m.next + 1)) r.before (update_entry d ∷ r.behind) (kept-all-later m.next r.before r.kept-before)
           (kept-document_after m.next d change k.started r.kept f.holds.0 f.holds.1, kept-all-later m.next r.behind r.kept-behind));
       names = subst (λ (xs : List DocId). AreDistinct xs) (sym (ap (map name_of) docs ∙ map-append name_of r.before (update_entry d ∷ r.behind))) r.names;
       tags =
@@ -195,20 +195,20 @@ found-some : (m : State) (id : DocId) (o : Option Document) → find (λ e. same
 found-some m id None e h = cc
 found-some m id (Some d) e h = record { document = d; found = e; holds = tt }
 
-kept-removed : (m : State) (id : DocId) (change : Change) → IsValidState m → SuitsAct m id change Removes → AreDistinct (addresses (after_act m id change Removes).documents)
-    → length (after_act m id change Removes).documents ≤ 1000 → sum_by (λ d. document_len d.now.tree) (after_act m id change Removes).documents ≤ 33554432 → IsValidState (after_act m id change Removes)
+kept-removed : (m : State) (id : DocId) (change : Change) → IsValidState m → IsAcceptableByKind m id change Removes → AreDistinct (all_addresses (state_after_by_kind m id change Removes).documents)
+    → length (state_after_by_kind m id change Removes).documents ≤ 1000 → sum_by (λ d. document_len d.now.tree) (state_after_by_kind m id change Removes).documents ≤ 33554432 → IsValidState (state_after_by_kind m id change Removes)
 kept-removed m id change k s services few room =
     let f = found-some m id (find (λ e. same_id id e.id) m.documents) refl s in
     let d = f.document in
     let r = round m id d k f.found in
-    let docs : (after_act m id change Removes).documents ≡ r.before ++ r.behind =
+    let docs : (state_after_by_kind m id change Removes).documents ≡ r.before ++ r.behind =
     ap (λ (ds : List Document). filter (λ e. not (same_id id e.id)) ds) r.parts
     ∙ one-filtered (λ (e : Document). same_id id e.id) r.before r.behind d r.none-before r.passes r.none-behind in
     record {
       started = le-add 1 m.next k.started;
       documents =
-          subst (λ (ds : List Document). AllByRecursion (IsKept (m.next + 1)) ds) (sym docs)
-          (each-append (IsKept (m.next + 1)) r.before r.behind (kept-all-later m.next r.before r.kept-before) (kept-all-later m.next r.behind r.kept-behind));
+          subst (λ (ds : List Document). AllByRecursion (IsValidDocument (m.next + 1)) ds) (sym docs)
+          (each-append (IsValidDocument (m.next + 1)) r.before r.behind (kept-all-later m.next r.before r.kept-before) (kept-all-later m.next r.behind r.kept-behind));
       names = subst (λ (xs : List DocId). AreDistinct xs) (sym (ap (map name_of) docs ∙ map-append name_of r.before r.behind)) (apart-cut (map name_of r.before) (d.id ∷ []) (map name_of r.behind) r.names);
       tags = subst (λ (xs : List ℕ). AreDistinct xs) (sym (ap (flat_map tags_of) docs ∙ flat_map-append tags_of r.before r.behind)) (apart-cut (flat_map tags_of r.before) (tags_of d) (flat_map tags_of r.behind) r.tags);
       services = services;
@@ -216,8 +216,8 @@ kept-removed m id change k s services few room =
       room = room;
     }
 
-kept-act : (m : State) (id : DocId) (change : Change) (act : Act) → IsValidState m → SuitsAct m id change act → AreDistinct (addresses (after_act m id change act).documents)
-    → length (after_act m id change act).documents ≤ 1000 → sum_by (λ d. document_len d.now.tree) (after_act m id change act).documents ≤ 33554432 → IsValidState (after_act m id change act)
+kept-act : (m : State) (id : DocId) (change : Change) (act : ChangeKind) → IsValidState m → IsAcceptableByKind m id change act → AreDistinct (all_addresses (state_after_by_kind m id change act).documents)
+    → length (state_after_by_kind m id change act).documents ≤ 1000 → sum_by (λ d. document_len d.now.tree) (state_after_by_kind m id change act).documents ≤ 33554432 → IsValidState (state_after_by_kind m id change act)
 kept-act m id change (Makes root) = kept-made m id change root
 kept-act m id change Edits = kept-edited m id change
 kept-act m id change Removes = kept-removed m id change
@@ -225,5 +225,5 @@ kept-act m id change Removes = kept-removed m id change
 pub kept-first : (first : ℕ) → 1 ≤ first → IsValidState (first_state first)
 kept-first first h = record { started = h; documents = tt; names = tt; tags = tt; services = tt; few = omega arith; room = omega arith }
 
-pub kept-after : (m : State) (id : DocId) (change : Change) → IsValidState m → Suits m id change → IsValidState (after m id change)
-kept-after m id change k s = kept-act m id change (act_of change) k s.act s.services s.few s.room
+pub kept-state_after : (m : State) (id : DocId) (change : Change) → IsValidState m → IsAcceptable m id change → IsValidState (state_after m id change)
+kept-state_after m id change k s = kept-act m id change (change_kind change) k s.act s.services s.few s.room

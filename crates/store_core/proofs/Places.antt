@@ -3,7 +3,7 @@ use Rattle.std.proofs.Common.{◌≡◌, ℕ, ◌+◌, Bool, true, false, cond, 
 use Rattle.std.proofs.lemmas.Iterator.Adapters.{position_from-zero}
 use Rattle.std.specs.List.{AllByRecursion, position, position_from}
 use Rattle.std.specs.Prelude.{max}
-use Rattle.store_core.specs.inner.Addresses.{ComeAt}
+use Rattle.store_core.specs.inner.Addresses.{AreAddedAt}
 use Rattle.store_core.proofs.AdmissionLemmas.{no-place}
 
 max-zero : (n : ℕ) → max n 0 ≡ n
@@ -38,14 +38,14 @@ module _ (p : List ℕ → Bool) where
   from-zero place None e = refl
   from-zero place (Some i) e = ap Some (sym (ap (λ (n : ℕ). max n i) e ∙ zero-max i))
 
-  by-them : (place n : ℕ) (us : List (List ℕ)) → ComeAt place n us → position_from p n us ≡ option_map (λ i. max place i) (position_from p 0 us)
+  by-them : (place n : ℕ) (us : List (List ℕ)) → AreAddedAt place n us → position_from p n us ≡ option_map (λ i. max place i) (position_from p 0 us)
   by-them place n [] come = refl
   by-them place n (u ∷ []) come = one-step place n (p u) come
   by-them place n (u ∷ v ∷ us) come =
       ap (λ (m : ℕ). position_from p m (u ∷ v ∷ us)) come.0 ∙ from-zero place (position_from p 0 (u ∷ v ∷ us)) come.1
 
   -- the first of all addresses that passes, by the first of the added ones
-  pub first-among : (place : ℕ) (before us behind : List (List ℕ)) → None-of p before → None-of p behind → ComeAt place (length before) us
+  pub first-among : (place : ℕ) (before us behind : List (List ℕ)) → None-of p before → None-of p behind → AreAddedAt place (length before) us
       → position p (before ++ (us ++ behind)) ≡ option_map (λ i. max place i) (position p us)
   first-among place before us behind h g come =
       from-there p before us behind h g ∙ by-them place (length before) us come ∙ sym (ap (option_map (λ i. max place i)) (position_from-zero p us))

@@ -5,10 +5,10 @@ use Rattle.std.specs.Map.{lookup}
 use Rattle.std.specs.Option.{option_or as or_else}
 use Rattle.xml_tree.specs.Tree.{Tree}
 use Rattle.usage_docs.specs.Services.{document_len}
-use Rattle.doc_names.specs.Equality.{same_id}
+use Rattle.doc_names.specs.NameEquality.{same_id}
 use Rattle.doc_names.specs.Usages.{usage_of}
 use Rattle.doc_names.specs.declared.doc_id.DocId.{DocId}
-use Rattle.edit_ops.specs.Changes.{Fits, edited}
+use Rattle.edit_ops.specs.Changes.{FitsTree, edited}
 use Rattle.edit_ops.specs.declared.change.Change.{Change}
 use Rattle.edit_ops.specs.declared.change.Change.TheVariants.{CreateDocument, RemoveDocument}
 use Rattle.edit_ops.specs.Notes.{Note, note_of}
@@ -18,38 +18,38 @@ use Rattle.store_core.specs.declared.staged_tree.StagedTree.TheVariants.{Whole, 
 use Rattle.store_core.specs.declared.step.Step.{Step}
 use Rattle.store_core.specs.declared.step.Step.TheVariants.{Make, Edit, End}
 use Rattle.store_core.specs.Contents.{StoredDocument, StoreContents as Content}
-use Rattle.store_core.specs.ValidStates.{IsSoundFor, addresses_in}
-use Rattle.store_core.specs.Queries.{Asks, MayBeFor}
-use Rattle.store_core.specs.DocumentChanges.{Act, Edits, act_of, refusal_of, refusal_of_number, refusal_of_tree, refusal_or, change_result, content_after, document_in, stored_name, note_for, other_lengths}
-use Rattle.store_core.specs.TreeChanges.{IsStagedIn, is_within}
+use Rattle.store_core.specs.ValidStates.{IsSoundDocumentFor, document_addresses}
+use Rattle.store_core.specs.ChangePreconditions.{MayRequest, MayBeDocumentFor}
+use Rattle.store_core.specs.DocumentChanges.{ChangeKind, Edits, change_kind, refusal_of, refusal_of_number, refusal_of_tree, refusal_or, change_result, contents_after, find_document, stored_id, note_for, total_len_of_others}
+use Rattle.store_core.specs.TreeChanges.{IsStagedTreeFor, edits_within_root}
 use Rattle.store_core.specs.inner.UnsharedTrees.{IsUnshared}
-use Rattle.store_core.specs.PreparedChanges.{Exchanges, HasTree, IsPlanned, IsReady, IsStepOf, Readied, total_of}
+use Rattle.store_core.specs.PreparedChanges.{ReplacesAddresses, HasTreeForStep, IsPlanned, IsReady, IsStepOf, PreparedChange, total_len}
 use Rattle.store_core.proofs.AcceptedChanges.{passes, not_found_refusal}
 use Rattle.store_core.proofs.DistinctItems.{none-filtered}
 use Rattle.store_core.proofs.ChangePremises.{asked, found-name}
 use Rattle.store_core.proofs.ServiceChanges.{exchanged-by}
 use Rattle.store_core.proofs.ChangeReasons.{refused-first, refused-last, not-refused-at-all}
-use Rattle.store_core.specs.StoreViews.{Stored, entry_of}
-use Rattle.store_core.specs.inner.Addresses.{AreExchanged, enter_in, first_number, leave_in}
+use Rattle.store_core.specs.StoreViews.{StoreView, new_entry}
+use Rattle.store_core.specs.inner.Addresses.{AreReplacedAt, added_addresses_of, first_added_number, removed_addresses_of}
 use Rattle.store_core.specs.declared.change_builder.Outline.{Outline}
-use Rattle.store_core.specs.inner.ChangePlans.{IsHeldAs, IsNewOutline, IsNoted, IsOutline, Plans}
+use Rattle.store_core.specs.inner.ChangePlans.{IsStoredAs, IsCreationOutline, IsPreparedEdit, IsEditOutline, IsPlanResult}
 
 -- ---- any change
 
-pub plans-refused : (c : Content) (doc : DocId) (change : Change) (e : StoreRefusal) → change_result c doc change ≡ Err e → Plans c doc change (Err e)
-unfolding Plans
+pub plans-refused : (c : Content) (doc : DocId) (change : Change) (e : StoreRefusal) → change_result c doc change ≡ Err e → IsPlanResult c doc change (Err e)
+unfolding IsPlanResult
 plans-refused c doc change e h = h
 
-pub plans-made : (c : Content) (doc : DocId) (change : Change) (p : Readied) → p.doc ≡ doc → p.note.change ≡ change → IsPlanned c p → Plans c doc change (Ok p)
-unfolding Plans
+pub plans-made : (c : Content) (doc : DocId) (change : Change) (p : PreparedChange) → p.doc ≡ doc → p.note.change ≡ change → IsPlanned c p → IsPlanResult c doc change (Ok p)
+unfolding IsPlanResult
 plans-made c doc change p d e h = (d, e, h)
 
-pub plan-of : (c : Content) (doc : DocId) (change : Change) (p : Readied) → Plans c doc change (Ok p) → (p.doc ≡ doc) × (p.note.change ≡ change) × IsPlanned c p
-unfolding Plans
+pub plan-of : (c : Content) (doc : DocId) (change : Change) (p : PreparedChange) → IsPlanResult c doc change (Ok p) → (p.doc ≡ doc) × (p.note.change ≡ change) × IsPlanned c p
+unfolding IsPlanResult
 plan-of c doc change p h = h
 
-pub reason-of : (c : Content) (doc : DocId) (change : Change) (e : StoreRefusal) → Plans c doc change (Err e) → change_result c doc change ≡ Err e
-unfolding Plans
+pub reason-of : (c : Content) (doc : DocId) (change : Change) (e : StoreRefusal) → IsPlanResult c doc change (Err e) → change_result c doc change ≡ Err e
+unfolding IsPlanResult
 reason-of c doc change e h = h
 
 -- the document that a look-up found
@@ -70,118 +70,118 @@ some-held o h e = rw e refl
 
 -- ---- a creation
 
-pub creation-refused : (c : Content) (doc : DocId) (root : Tree) (e : StoreRefusal) → refusal_of_tree c doc true root ≡ Some e → Plans c doc (CreateDocument root) (Err e)
+pub creation-refused : (c : Content) (doc : DocId) (root : Tree) (e : StoreRefusal) → refusal_of_tree c doc true root ≡ Some e → IsPlanResult c doc (CreateDocument root) (Err e)
 creation-refused c doc root e h =
     let change = CreateDocument root in
-    plans-refused c doc change e (refused-first (refusal_of_tree c doc true root) (refusal_of_number c) e (note_for c doc change (document_in stored_name c.documents doc)) (content_after c doc change) h)
+    plans-refused c doc change e (refused-first (refusal_of_tree c doc true root) (refusal_of_number c) e (note_for c doc change (find_document stored_id c.documents doc)) (contents_after c doc change) h)
 
-pub creation-unnumbered : (c : Content) (doc : DocId) (root : Tree) (e : StoreRefusal) → refusal_of_tree c doc true root ≡ None → refusal_of_number c ≡ Some e → Plans c doc (CreateDocument root) (Err e)
+pub creation-unnumbered : (c : Content) (doc : DocId) (root : Tree) (e : StoreRefusal) → refusal_of_tree c doc true root ≡ None → refusal_of_number c ≡ Some e → IsPlanResult c doc (CreateDocument root) (Err e)
 creation-unnumbered c doc root e h g =
     let change = CreateDocument root in
-    plans-refused c doc change e (refused-last (refusal_of_tree c doc true root) (refusal_of_number c) e (note_for c doc change (document_in stored_name c.documents doc)) (content_after c doc change) h g)
+    plans-refused c doc change e (refused-last (refusal_of_tree c doc true root) (refusal_of_number c) e (note_for c doc change (find_document stored_id c.documents doc)) (contents_after c doc change) h g)
 
-other-lengths-new : (c : Content) (doc : DocId) → document_in stored_name c.documents doc ≡ None → other_lengths c doc ≡ total_of c
+other-lengths-new : (c : Content) (doc : DocId) → find_document stored_id c.documents doc ≡ None → total_len_of_others c doc ≡ total_len c
 other-lengths-new c doc missing =
     let q : StoredDocument → Bool = λ h. same_id doc h.id in
     ap (λ (hs : List StoredDocument). sum_by (λ (h : StoredDocument). document_len h.tree) hs) (none-filtered q c.documents (not_found_refusal q c.documents missing))
 
-pub creation-room : (c : Content) (doc : DocId) (root : Tree) → document_in stored_name c.documents doc ≡ None → refusal_of_tree c doc true root ≡ None → (total_of c + document_len root ≤ 33554432) × (document_len root ≤ 262144)
+pub creation-room : (c : Content) (doc : DocId) (root : Tree) → find_document stored_id c.documents doc ≡ None → refusal_of_tree c doc true root ≡ None → (total_len c + document_len root ≤ 33554432) × (document_len root ≤ 262144)
 creation-room c doc root missing h =
     let p = passes c doc true root h in
     (omega (arith, p.room, other-lengths-new c doc missing), p.short)
 
-pub creation-planned : (c : Content) (doc : DocId) (root : Tree) (o : Outline) → Asks c doc (CreateDocument root) → IsNewOutline c doc root o
-    → Plans c doc (CreateDocument root) (Ok (record { doc = doc; note = record { previous = 0; next = o.number; bindings = []; change = CreateDocument root; fresh = false }; step = Make doc (entry_of o.number root); leaves = o.leaves; enters = o.enters; total = o.total }))
+pub creation-planned : (c : Content) (doc : DocId) (root : Tree) (o : Outline) → MayRequest c doc (CreateDocument root) → IsCreationOutline c doc root o
+    → IsPlanResult c doc (CreateDocument root) (Ok (record { doc = doc; note = record { previous = 0; next = o.number; bindings = []; change = CreateDocument root; fresh = false }; step = Make doc (new_entry o.number root); leaves = o.leaves; enters = o.enters; total = o.total }))
 creation-planned c doc root o asks outlined =
     let change = CreateDocument root in
-    let found = document_in stored_name c.documents doc in
+    let found = find_document stored_id c.documents doc in
     let note : ℕ → Note = λ n. record { previous = 0; next = n; bindings = []; change = change; fresh = false } in
-    let p : Readied = record { doc = doc; note = note o.number; step = Make doc (entry_of o.number root); leaves = o.leaves; enters = o.enters; total = o.total } in
+    let p : PreparedChange = record { doc = doc; note = note o.number; step = Make doc (new_entry o.number root); leaves = o.leaves; enters = o.enters; total = o.total } in
     let noted : note_for c doc change found ≡ note o.number = ap (λ (h : Option StoredDocument). note_for c doc change h) asks.0 ∙ ap note (sym outlined.number) in
     plans-made c doc change p refl refl (record {
       asks = asks;
       made =
-          not-refused-at-all (refusal_of_tree c doc true root) (refusal_of_number c) (note_for c doc change found) (content_after c doc change) outlined.free outlined.numbered
-          ∙ ap (λ (n : Note). let x : Note × Content = (n, content_after c doc change) in let r : Result (Note × Content) StoreRefusal = Ok x in r) noted;
+          not-refused-at-all (refusal_of_tree c doc true root) (refusal_of_number c) (note_for c doc change found) (contents_after c doc change) outlined.free outlined.numbered
+          ∙ ap (λ (n : Note). let x : Note × Content = (n, contents_after c doc change) in let r : Result (Note × Content) StoreRefusal = Ok x in r) noted;
       number = outlined.number;
-      step = (asks.0, refl, ap (λ (n : ℕ). entry_of n root) outlined.number, outlined.leaves, outlined.enters, outlined.total, refl);
+      step = (asks.0, refl, ap (λ (n : ℕ). new_entry n root) outlined.number, outlined.leaves, outlined.enters, outlined.total, refl);
     })
 
 -- ---- an edit
 
-edit-change_result : (c : Content) (doc : DocId) (change : Change) (h : StoredDocument) → act_of change ≡ Edits → document_in stored_name c.documents doc ≡ Some h
-    → change_result c doc change ≡ refusal_or (or_else (refusal_of_tree c doc false (edited h.tree change)) (refusal_of_number c)) (note_of h.tag c.next h.tree change) (content_after c doc change)
+edit-change_result : (c : Content) (doc : DocId) (change : Change) (h : StoredDocument) → change_kind change ≡ Edits → find_document stored_id c.documents doc ≡ Some h
+    → change_result c doc change ≡ refusal_or (or_else (refusal_of_tree c doc false (edited h.tree change)) (refusal_of_number c)) (note_of h.tag c.next h.tree change) (contents_after c doc change)
 edit-change_result c doc change h edits found =
-    ap (λ (o : Option StoredDocument). refusal_or (refusal_of c doc change o (act_of change)) (note_for c doc change o) (content_after c doc change)) found
-    ∙ ap (λ (act : Act). refusal_or (refusal_of c doc change (Some h) act) (note_of h.tag c.next h.tree change) (content_after c doc change)) edits
+    ap (λ (o : Option StoredDocument). refusal_or (refusal_of c doc change o (change_kind change)) (note_for c doc change o) (contents_after c doc change)) found
+    ∙ ap (λ (act : ChangeKind). refusal_or (refusal_of c doc change (Some h) act) (note_of h.tag c.next h.tree change) (contents_after c doc change)) edits
 
-pub edit-refused : (c : Content) (doc : DocId) (change : Change) (h : StoredDocument) (t : Tree) (e : StoreRefusal) → act_of change ≡ Edits → document_in stored_name c.documents doc ≡ Some h → t ≡ edited h.tree change
-    → refusal_of_tree c doc false t ≡ Some e → Plans c doc change (Err e)
+pub edit-refused : (c : Content) (doc : DocId) (change : Change) (h : StoredDocument) (t : Tree) (e : StoreRefusal) → change_kind change ≡ Edits → find_document stored_id c.documents doc ≡ Some h → t ≡ edited h.tree change
+    → refusal_of_tree c doc false t ≡ Some e → IsPlanResult c doc change (Err e)
 edit-refused c doc change h t e edits found tree g =
     let note = note_of h.tag c.next h.tree change in
     plans-refused c doc change e
     (edit-change_result c doc change h edits found
-    ∙ refused-first (refusal_of_tree c doc false (edited h.tree change)) (refusal_of_number c) e note (content_after c doc change) (ap (λ (x : Tree). refusal_of_tree c doc false x) (sym tree) ∙ g))
+    ∙ refused-first (refusal_of_tree c doc false (edited h.tree change)) (refusal_of_number c) e note (contents_after c doc change) (ap (λ (x : Tree). refusal_of_tree c doc false x) (sym tree) ∙ g))
 
-pub edit-unnumbered : (c : Content) (doc : DocId) (change : Change) (h : StoredDocument) (t : Tree) (e : StoreRefusal) → act_of change ≡ Edits → document_in stored_name c.documents doc ≡ Some h → t ≡ edited h.tree change
-    → refusal_of_tree c doc false t ≡ None → refusal_of_number c ≡ Some e → Plans c doc change (Err e)
+pub edit-unnumbered : (c : Content) (doc : DocId) (change : Change) (h : StoredDocument) (t : Tree) (e : StoreRefusal) → change_kind change ≡ Edits → find_document stored_id c.documents doc ≡ Some h → t ≡ edited h.tree change
+    → refusal_of_tree c doc false t ≡ None → refusal_of_number c ≡ Some e → IsPlanResult c doc change (Err e)
 edit-unnumbered c doc change h t e edits found tree g n =
     let note = note_of h.tag c.next h.tree change in
     plans-refused c doc change e
     (edit-change_result c doc change h edits found
-    ∙ refused-last (refusal_of_tree c doc false (edited h.tree change)) (refusal_of_number c) e note (content_after c doc change) (ap (λ (x : Tree). refusal_of_tree c doc false x) (sym tree) ∙ g) n)
+    ∙ refused-last (refusal_of_tree c doc false (edited h.tree change)) (refusal_of_number c) e note (contents_after c doc change) (ap (λ (x : Tree). refusal_of_tree c doc false x) (sym tree) ∙ g) n)
 
-pub edit-room : (c : Content) (doc : DocId) (t : Tree) → refusal_of_tree c doc false t ≡ None → (other_lengths c doc + document_len t ≤ 33554432) × (document_len t ≤ 262144)
+pub edit-room : (c : Content) (doc : DocId) (t : Tree) → refusal_of_tree c doc false t ≡ None → (total_len_of_others c doc + document_len t ≤ 33554432) × (document_len t ≤ 262144)
 edit-room c doc t h = let p = passes c doc false t h in (p.room, p.short)
 
 -- which of its addresses are replaced
-pub edit-exchanged : (c : Content) (doc : DocId) (change : Change) (h : StoredDocument) (t : Tree) (first : ℕ) (leaves enters : List (List ℕ)) → Asks c doc change → act_of change ≡ Edits
-    → document_in stored_name c.documents doc ≡ Some h → h.tree ≡ t → IsSoundFor (usage_of doc.auid) t → first ≡ first_number change → leaves ≡ leave_in doc.auid t change → enters ≡ enter_in doc.auid change
-    → AreExchanged first (addresses_in doc.auid h.tree) leaves enters (addresses_in doc.auid (edited t change))
+pub edit-exchanged : (c : Content) (doc : DocId) (change : Change) (h : StoredDocument) (t : Tree) (first : ℕ) (leaves enters : List (List ℕ)) → MayRequest c doc change → change_kind change ≡ Edits
+    → find_document stored_id c.documents doc ≡ Some h → h.tree ≡ t → IsSoundDocumentFor (usage_of doc.auid) t → first ≡ first_added_number change → leaves ≡ removed_addresses_of doc.auid t change → enters ≡ added_addresses_of doc.auid change
+    → AreReplacedAt first (document_addresses doc.auid h.tree) leaves enters (document_addresses doc.auid (edited t change))
 edit-exchanged c doc change h t first leaves enters asks edits found tree sound number left entered =
     let asked-for = asked c doc change h edits found asks in
-    let fits : Fits t change = subst (λ (x : Tree). Fits x change) tree asked-for.0 in
-    let named = subst (λ (d : DocId). MayBeFor (usage_of d.auid) (edited h.tree change)) (sym (found-name c doc h found)) asked-for.1 in
-    let may : MayBeFor (usage_of doc.auid) (edited t change) = subst (λ (x : Tree). MayBeFor (usage_of doc.auid) (edited x change)) tree named in
-    let new = addresses_in doc.auid (edited t change) in
-    subst (λ (x : Tree). AreExchanged first (addresses_in doc.auid x) leaves enters new) (sym tree)
-    (subst (λ (n : ℕ). AreExchanged n (addresses_in doc.auid t) leaves enters new) (sym number)
-    (subst (λ (us : List (List ℕ)). AreExchanged (first_number change) (addresses_in doc.auid t) us enters new) (sym left)
-    (subst (λ (us : List (List ℕ)). AreExchanged (first_number change) (addresses_in doc.auid t) (leave_in doc.auid t change) us new) (sym entered)
+    let fits : FitsTree t change = subst (λ (x : Tree). FitsTree x change) tree asked-for.0 in
+    let named = subst (λ (d : DocId). MayBeDocumentFor (usage_of d.auid) (edited h.tree change)) (sym (found-name c doc h found)) asked-for.1 in
+    let may : MayBeDocumentFor (usage_of doc.auid) (edited t change) = subst (λ (x : Tree). MayBeDocumentFor (usage_of doc.auid) (edited x change)) tree named in
+    let new = document_addresses doc.auid (edited t change) in
+    subst (λ (x : Tree). AreReplacedAt first (document_addresses doc.auid x) leaves enters new) (sym tree)
+    (subst (λ (n : ℕ). AreReplacedAt n (document_addresses doc.auid t) leaves enters new) (sym number)
+    (subst (λ (us : List (List ℕ)). AreReplacedAt (first_added_number change) (document_addresses doc.auid t) us enters new) (sym left)
+    (subst (λ (us : List (List ℕ)). AreReplacedAt (first_added_number change) (document_addresses doc.auid t) (removed_addresses_of doc.auid t change) us new) (sym entered)
     (exchanged-by doc.auid t change fits sound may))))
 
 -- so they are replaced between the same others
-pub exchanged-between : (first : ℕ) (old now leaves enters new : List (List ℕ)) → now ≡ old → AreExchanged first old leaves enters new → Exchanges now leaves enters new
+pub exchanged-between : (first : ℕ) (old now leaves enters new : List (List ℕ)) → now ≡ old → AreReplacedAt first old leaves enters new → ReplacesAddresses now leaves enters new
 exchanged-between first old now leaves enters new same x = (x.before, x.behind, same ∙ x.was, x.becomes)
 
 -- with its memory and its change record
-pub edit-planned : (c : Content) (doc : DocId) (change : Change) (v : Entry) (o : Outline) (p : Readied) → Asks c doc change → act_of change ≡ Edits → IsHeldAs c doc v
-    → IsOutline c doc v.tree.root change o → IsNoted doc v change o p → Plans c doc change (Ok p)
+pub edit-planned : (c : Content) (doc : DocId) (change : Change) (v : Entry) (o : Outline) (p : PreparedChange) → MayRequest c doc change → change_kind change ≡ Edits → IsStoredAs c doc v
+    → IsEditOutline c doc v.tree.root change o → IsPreparedEdit doc v change o p → IsPlanResult c doc change (Ok p)
 edit-planned c doc change v o p asks edits held outlined noted =
     let h = held.0 in
     let note = noted.0 in
     let staged = noted.3.0 in
-    let with-step : Step → Readied = λ s. record { doc = doc; note = note; step = s; leaves = o.leaves; enters = o.enters; total = o.total } in
+    let with-step : Step → PreparedChange = λ s. record { doc = doc; note = note; step = s; leaves = o.leaves; enters = o.enters; total = o.total } in
     let tree : v.tree.root ≡ h.tree = sym held.2 in
     let full : note ≡ note_of h.tag c.next h.tree change =
     noted.2 ∙ ap (λ (t : ℕ). note_of t o.number v.tree.root change) (sym held.3) ∙ ap (λ (t : Tree). note_of h.tag o.number t change) tree ∙ ap (λ (n : ℕ). note_of h.tag n h.tree change) outlined.number in
     let same : change ≡ note.change = sym (ap (λ (n : Note). n.change) full) in
     let after : edited v.tree.root change ≡ edited h.tree note.change = ap (λ (t : Tree). edited t change) tree ∙ ap (λ (x : Change). edited h.tree x) same in
-    let made : change_result c doc change ≡ Ok (note, content_after c doc change) =
+    let made : change_result c doc change ≡ Ok (note, contents_after c doc change) =
     edit-change_result c doc change h edits held.1
-    ∙ not-refused-at-all (refusal_of_tree c doc false (edited h.tree change)) (refusal_of_number c) (note_of h.tag c.next h.tree change) (content_after c doc change)
+    ∙ not-refused-at-all (refusal_of_tree c doc false (edited h.tree change)) (refusal_of_number c) (note_of h.tag c.next h.tree change) (contents_after c doc change)
     (ap (λ (t : Tree). refusal_of_tree c doc false (edited t change)) (sym tree) ∙ outlined.free) outlined.numbered
-    ∙ ap (λ (n : Note). let x : Note × Content = (n, content_after c doc change) in let r : Result (Note × Content) StoreRefusal = Ok x in r) (sym full) in
-    let memory : IsStagedIn h.tree note.change staged = subst (λ (t : Tree). IsStagedIn t note.change staged) tree noted.3.1 in
-    subst (λ (x : Readied). Plans c doc change (Ok x)) (sym (noted.4 ∙ ap with-step noted.3.2))
+    ∙ ap (λ (n : Note). let x : Note × Content = (n, contents_after c doc change) in let r : Result (Note × Content) StoreRefusal = Ok x in r) (sym full) in
+    let memory : IsStagedTreeFor h.tree note.change staged = subst (λ (t : Tree). IsStagedTreeFor t note.change staged) tree noted.3.1 in
+    subst (λ (x : PreparedChange). IsPlanResult c doc change (Ok x)) (sym (noted.4 ∙ ap with-step noted.3.2))
     (plans-made c doc change (with-step (Edit staged note o.len)) refl (sym same) (record {
-      asks = subst (λ (x : Change). Asks c doc x) same asks;
-      made = subst (λ (x : Change). change_result c doc x ≡ Ok (note, content_after c doc x)) same made;
+      asks = subst (λ (x : Change). MayRequest c doc x) same asks;
+      made = subst (λ (x : Change). change_result c doc x ≡ Ok (note, contents_after c doc x)) same made;
       number = ap (λ (n : Note). n.next) full;
       step = (
         h,
         held.1,
-        ap act_of (sym same) ∙ edits,
+        ap change_kind (sym same) ∙ edits,
         memory,
         outlined.len ∙ ap document_len after,
         refl,
@@ -189,8 +189,8 @@ edit-planned c doc change v o p asks edits held outlined noted =
         (
           outlined.addresses.0,
           outlined.addresses.1,
-          ap (λ (t : Tree). addresses_in doc.auid t) (sym tree) ∙ outlined.addresses.2,
-          ap (λ (t : Tree). addresses_in doc.auid t) (sym after) ∙ outlined.addresses.3,
+          ap (λ (t : Tree). document_addresses doc.auid t) (sym tree) ∙ outlined.addresses.2,
+          ap (λ (t : Tree). document_addresses doc.auid t) (sym after) ∙ outlined.addresses.3,
         ),
         ap (λ (t : Tree). o.total + document_len t) (sym tree) ∙ outlined.total,
       );
@@ -198,47 +198,47 @@ edit-planned c doc change v o p asks edits held outlined noted =
 
 -- ---- a removal
 
-pub removal-unnumbered : (c : Content) (doc : DocId) (e : StoreRefusal) → refusal_of_number c ≡ Some e → Plans c doc RemoveDocument (Err e)
+pub removal-unnumbered : (c : Content) (doc : DocId) (e : StoreRefusal) → refusal_of_number c ≡ Some e → IsPlanResult c doc RemoveDocument (Err e)
 removal-unnumbered c doc e h =
-    let note = note_for c doc RemoveDocument (document_in stored_name c.documents doc) in
-    plans-refused c doc RemoveDocument e (ap (λ (o : Option StoreRefusal). refusal_or o note (content_after c doc RemoveDocument)) h)
+    let note = note_for c doc RemoveDocument (find_document stored_id c.documents doc) in
+    plans-refused c doc RemoveDocument e (ap (λ (o : Option StoreRefusal). refusal_or o note (contents_after c doc RemoveDocument)) h)
 
-pub removal-planned : (c : Content) (doc : DocId) (h : StoredDocument) (tag number total : ℕ) (leaves : List (List ℕ)) → Asks c doc RemoveDocument → document_in stored_name c.documents doc ≡ Some h → refusal_of_number c ≡ None → number ≡ c.next
-    → h.tag ≡ tag → leaves ≡ addresses_in doc.auid h.tree → total + document_len h.tree ≡ total_of c
-    → Plans c doc RemoveDocument (Ok (record { doc = doc; note = record { previous = tag; next = number; bindings = []; change = RemoveDocument; fresh = false }; step = End; leaves = leaves; enters = []; total = total }))
+pub removal-planned : (c : Content) (doc : DocId) (h : StoredDocument) (tag number total : ℕ) (leaves : List (List ℕ)) → MayRequest c doc RemoveDocument → find_document stored_id c.documents doc ≡ Some h → refusal_of_number c ≡ None → number ≡ c.next
+    → h.tag ≡ tag → leaves ≡ document_addresses doc.auid h.tree → total + document_len h.tree ≡ total_len c
+    → IsPlanResult c doc RemoveDocument (Ok (record { doc = doc; note = record { previous = tag; next = number; bindings = []; change = RemoveDocument; fresh = false }; step = End; leaves = leaves; enters = []; total = total }))
 removal-planned c doc h tag number total leaves asks found free numbered tagged left sum =
-    let found_at = document_in stored_name c.documents doc in
+    let found_at = find_document stored_id c.documents doc in
     let note : ℕ → ℕ → Note = λ t n. record { previous = t; next = n; bindings = []; change = RemoveDocument; fresh = false } in
-    let p : Readied = record { doc = doc; note = note tag number; step = End; leaves = leaves; enters = []; total = total } in
+    let p : PreparedChange = record { doc = doc; note = note tag number; step = End; leaves = leaves; enters = []; total = total } in
     let noted : note_for c doc RemoveDocument found_at ≡ note tag number =
     ap (λ (o : Option StoredDocument). note_for c doc RemoveDocument o) found ∙ ap (λ (t : ℕ). note t c.next) tagged ∙ ap (note tag) (sym numbered) in
     plans-made c doc RemoveDocument p refl refl (record {
       asks = asks;
       made =
-          ap (λ (o : Option StoreRefusal). refusal_or o (note_for c doc RemoveDocument found_at) (content_after c doc RemoveDocument)) free
-          ∙ ap (λ (n : Note). let x : Note × Content = (n, content_after c doc RemoveDocument) in let r : Result (Note × Content) StoreRefusal = Ok x in r) noted;
+          ap (λ (o : Option StoreRefusal). refusal_or o (note_for c doc RemoveDocument found_at) (contents_after c doc RemoveDocument)) free
+          ∙ ap (λ (n : Note). let x : Note × Content = (n, contents_after c doc RemoveDocument) in let r : Result (Note × Content) StoreRefusal = Ok x in r) noted;
       number = numbered;
       step = (h, found, refl, left, refl, sum);
     })
 
 -- ---- a planned change, once its memory is reserved
 
-pub prepared-ok : (c : Content) (doc : DocId) (change : Change) (p : Readied) → Plans c doc change (Ok p)
-    → (p.doc ≡ doc) × (change_result c doc change ≡ Ok (p.note, content_after c doc change)) × (p.note.change ≡ change)
+pub prepared-ok : (c : Content) (doc : DocId) (change : Change) (p : PreparedChange) → IsPlanResult c doc change (Ok p)
+    → (p.doc ≡ doc) × (change_result c doc change ≡ Ok (p.note, contents_after c doc change)) × (p.note.change ≡ change)
 prepared-ok c doc change p h =
     let r = plan-of c doc change p h in
-    let made : change_result c p.doc change ≡ Ok (p.note, content_after c p.doc change) = subst (λ (x : Change). change_result c p.doc x ≡ Ok (p.note, content_after c p.doc x)) r.1 r.2.made in
-    (r.0, subst (λ (d : DocId). change_result c d change ≡ Ok (p.note, content_after c d change)) r.0 made, r.1)
+    let made : change_result c p.doc change ≡ Ok (p.note, contents_after c p.doc change) = subst (λ (x : Change). change_result c p.doc x ≡ Ok (p.note, contents_after c p.doc x)) r.1 r.2.made in
+    (r.0, subst (λ (d : DocId). change_result c d change ≡ Ok (p.note, contents_after c d change)) r.0 made, r.1)
 
 -- only an edit within the root is made in place
-has-tree : (c : Content) (p : Readied) (step : Step) (trees : List (DocId × Bool)) → IsStepOf c p step → (is_within p.note.change ≡ true → IsUnshared trees p.doc) → HasTree step (lookup (same_id p.doc) trees)
+has-tree : (c : Content) (p : PreparedChange) (step : Step) (trees : List (DocId × Bool)) → IsStepOf c p step → (edits_within_root p.note.change ≡ true → IsUnshared trees p.doc) → HasTreeForStep step (lookup (same_id p.doc) trees)
 has-tree c p (Make key entry) trees h own = tt
 has-tree c p (Edit (Whole root) kept len) trees h own = λ b is. tt
 has-tree c p (Edit (InPlace staged) kept len) trees h own = own h.3.1
 has-tree c p End trees h own = tt
 
-pub prepared-ready : (s t : Stored) (doc : DocId) (change : Change) (p : Readied) → Plans s.content doc change (Ok p) → t.content ≡ s.content → 1 ≤ t.room.documents → length p.enters ≤ t.room.services
-    → (is_within p.note.change ≡ true → IsUnshared t.room.trees p.doc) → IsReady t p
+pub prepared-ready : (s t : StoreView) (doc : DocId) (change : Change) (p : PreparedChange) → IsPlanResult s.content doc change (Ok p) → t.content ≡ s.content → 1 ≤ t.room.documents → length p.enters ≤ t.room.services
+    → (edits_within_root p.note.change ≡ true → IsUnshared t.room.trees p.doc) → IsReady t p
 prepared-ready s t doc change p h same document services own =
     let plan = plan-of s.content doc change p h in
     record {

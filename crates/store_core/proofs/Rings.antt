@@ -3,27 +3,27 @@ use Rattle.std.proofs.Common.{◌≡◌, ℕ, ◌+◌, ◌-◌, ◌*◌, ◌<◌
 use Rattle.std.proofs.lemmas.Bool.Decides.{nat_tests}
 use Rattle.std.proofs.lemmas.List.Sums.{sum_by-append}
 use Rattle.circular_buffer.specs.Buffer.{keep_last}
-use Rattle.store_core.specs.State.{is_small, small_end}
+use Rattle.store_core.specs.State.{is_within_retention, longest_retained_end}
 use Rattle.store_core.proofs.AcceptedChanges.{sum-first}
 
 module _ {A : Type 0} (weight : A → ℕ) where
-  pub one-stays : (xs : List A) → length xs ≤ 1 → small_end weight xs ≡ xs
+  pub one-stays : (xs : List A) → length xs ≤ 1 → longest_retained_end weight xs ≡ xs
   one-stays [] h = refl
   one-stays (x ∷ []) h = refl
   one-stays (x ∷ y ∷ xs) h = absurd (omega arith)
 
-  pub small-stays : (xs : List A) → is_small weight xs ≡ true → small_end weight xs ≡ xs
+  pub small-stays : (xs : List A) → is_within_retention weight xs ≡ true → longest_retained_end weight xs ≡ xs
   small-stays [] h = refl
   small-stays (x ∷ []) h = refl
-  small-stays (x ∷ y ∷ xs) h = ap (λ b. cond b (x ∷ y ∷ xs) (small_end weight (y ∷ xs))) h
+  small-stays (x ∷ y ∷ xs) h = ap (λ b. cond b (x ∷ y ∷ xs) (longest_retained_end weight (y ∷ xs))) h
 
-  pub too-heavy : (ns : List A) → 65536 < sum_by weight ns → is_small weight ns ≡ false
+  pub too-heavy : (ns : List A) → 65536 < sum_by weight ns → is_within_retention weight ns ≡ false
   too-heavy ns h = by (length ns) (sum_by weight ns) h
     where
       by : (n w : ℕ) → 65536 < w → (nat_le n 64 && nat_le w 65536) ≡ false
       by n w h = grind (arith, nat_tests)
 
-  pub light-stays : (ns : List A) → sum_by weight ns ≤ 65536 → length ns ≤ 64 → small_end weight ns ≡ ns
+  pub light-stays : (ns : List A) → sum_by weight ns ≤ 65536 → length ns ≤ 64 → longest_retained_end weight ns ≡ ns
   light-stays ns light few = small-stays ns (by (length ns) (sum_by weight ns) light few)
     where
       by : (n w : ℕ) → w ≤ 65536 → n ≤ 64 → (nat_le n 64 && nat_le w 65536) ≡ true

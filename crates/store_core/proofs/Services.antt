@@ -10,20 +10,20 @@ use Rattle.std.proofs.lemmas.Slice.Eq.{bytes_eq-Decides}
 use Rattle.xml_tree.specs.Tree.{Tree, child_elements_of}
 use Rattle.xml_names.specs.declared.names.Attr.{Attr}
 use Rattle.xml_tree.specs.TreeScopes.{inside}
-use Rattle.usage_docs.specs.UniqueKeys.{HasUniqueKeys, mark, mark_of}
-use Rattle.usage_docs.specs.Keys.{attribute_of, key_of, key_value, value_of}
+use Rattle.usage_docs.specs.UniqueKeys.{HasUniqueKeys, sibling_key, sibling_key_of}
+use Rattle.usage_docs.specs.KeyAttributes.{attribute_of, key_of, key_value, value_of}
 use Rattle.usage_docs.specs.SchemaTable.{Scope, child_kind, kind_of, content_model_of, namespace_of_children, root_kind, element_namespace, local_name_of}
 use Rattle.usage_docs.specs.Services.{service_uri, service_uris}
-use Rattle.usage_docs.specs.declared.keys.Clash.{Clash}
+use Rattle.usage_docs.specs.declared.key_repeats.Clash.{Clash}
 use Rattle.usage_docs.specs.declared.schema_table.ElementKind.{ElementKind}
 use Rattle.usage_docs.specs.declared.schema_table.ElementKind.TheVariants.{RlsServices, Service}
 use Rattle.usage_docs.specs.declared.schema_table.Key.TheVariants.{Uri}
 use Rattle.doc_names.specs.declared.usages.Usage.TheVariants as usages
 use Rattle.doc_names.specs.declared.doc_id.Auid.{Auid}
 use Rattle.doc_names.specs.declared.doc_id.Auid.TheVariants.{ResourceLists, RlsServices as RlsUsage, XcapCaps}
-use Rattle.store_core.specs.ValidStates.{AreDistinct, addresses_in}
+use Rattle.store_core.specs.ValidStates.{AreDistinct, document_addresses}
 use Rattle.doc_names.specs.Usages.{usage_of}
-use Rattle.store_core.specs.Queries.{MayBeFor}
+use Rattle.store_core.specs.ChangePreconditions.{MayBeDocumentFor}
 use Rattle.store_core.specs.DocumentChanges.{first_taken_address}
 use Rattle.store_core.proofs.DistinctItems.{each-append, each-left, each-right, apart-put}
 
@@ -113,18 +113,18 @@ key-of-service : (ats : List Attr) → key_value Service ats ≡ value_of Uri at
 unfolding key_value key_of attribute_of
 key-of-service ats = refl
 
-marked-step : (o : Option ElementKind) (ats : List Attr) (u : List ℕ) → ((kind : ElementKind) → o ≡ Some kind → kind ≡ Service) → option_and_then (λ _. value_of Uri ats) o ≡ Some u → option_and_then (λ kind. option_map (mark kind) (key_value kind ats)) o ≡ Some (mark Service u)
+marked-step : (o : Option ElementKind) (ats : List Attr) (u : List ℕ) → ((kind : ElementKind) → o ≡ Some kind → kind ≡ Service) → option_and_then (λ _. value_of Uri ats) o ≡ Some u → option_and_then (λ kind. option_map (sibling_key kind) (key_value kind ats)) o ≡ Some (sibling_key Service u)
 marked-step None ats u k h = cc
 marked-step (Some kind) ats u k h =
-    ap (λ (x : ElementKind). option_map (mark x) (key_value x ats)) (k kind refl) ∙ ap (λ (v : Option (List ℕ)). option_map (mark Service) v) (key-of-service ats ∙ h)
+    ap (λ (x : ElementKind). option_map (sibling_key x) (key_value x ats)) (k kind refl) ∙ ap (λ (v : Option (List ℕ)). option_map (sibling_key Service) v) (key-of-service ats ∙ h)
 
-service-mark : (c : Scope) (e : Tree) (u : List ℕ) → service_uri c e ≡ Some u → mark_of RlsServices c e ≡ Some (mark Service u)
-unfolding service_uri mark_of
-service-mark c e u h = marked-step (kind_of RlsServices (inside c e) e.name) e.attrs u (kind-of-child c e) h
+service-sibling_key : (c : Scope) (e : Tree) (u : List ℕ) → service_uri c e ≡ Some u → sibling_key_of RlsServices c e ≡ Some (sibling_key Service u)
+unfolding service_uri sibling_key_of
+service-sibling_key c e u h = marked-step (kind_of RlsServices (inside c e) e.name) e.attrs u (kind-of-child c e) h
 
-mark-there : (c : Scope) (o : Option Tree) (u : List ℕ) → option_and_then (service_uri c) o ≡ Some u → option_and_then (mark_of RlsServices c) o ≡ Some (mark Service u)
-mark-there c None u h = cc
-mark-there c (Some e) u h = service-mark c e u h
+sibling_key-there : (c : Scope) (o : Option Tree) (u : List ℕ) → option_and_then (service_uri c) o ≡ Some u → option_and_then (sibling_key_of RlsServices c) o ≡ Some (sibling_key Service u)
+sibling_key-there c None u h = cc
+sibling_key-there c (Some e) u h = service-sibling_key c e u h
 
 services-apart : (t : Tree) → HasUniqueKeys usages.RlsServices t → AreDistinct (service_uris t)
 unfolding root_kind key_of attribute_of
@@ -132,10 +132,10 @@ services-apart t unique =
     let c : Scope = t.decls ∷ [] in
     found-apart (service_uri c) (child_elements_of t) (λ i j u l a b.
     unique (j ∷ []) Uri
-    (record { shared = mark Service u; earlier = i; comes_first = l; that = mark-there c (slice_get (child_elements_of t) i) u a; this = mark-there c (slice_get (child_elements_of t) j) u b; by_key = refl }))
+    (record { shared = sibling_key Service u; earlier = i; comes_first = l; that = sibling_key-there c (slice_get (child_elements_of t) i) u a; this = sibling_key-there c (slice_get (child_elements_of t) j) u b; by_key = refl }))
 
 -- the addresses of a document are distinct
-pub own-apart : (auid : Auid) (t : Tree) → MayBeFor (usage_of auid) t → AreDistinct (addresses_in auid t)
+pub own-apart : (auid : Auid) (t : Tree) → MayBeDocumentFor (usage_of auid) t → AreDistinct (document_addresses auid t)
 own-apart ResourceLists t h = tt
 own-apart RlsUsage t h = services-apart t h.faultless.2
 own-apart XcapCaps t h = tt

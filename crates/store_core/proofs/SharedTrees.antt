@@ -5,14 +5,14 @@ use Rattle.std.specs.List.{AllByRecursion}
 use Rattle.std.specs.Map.{lookup, set_value}
 use Rattle.std.specs.Set.{is_member}
 use Rattle.std.specs.Str.{bytes_eq}
-use Rattle.doc_names.specs.Equality.{same_id}
+use Rattle.doc_names.specs.NameEquality.{same_id}
 use Rattle.doc_names.specs.contracts.doc_id.DocIdPartialEq.TheImpl.{eq-value}
 use Rattle.doc_names.specs.declared.doc_id.DocId.{DocId}
 use Rattle.store_core.specs.declared.entry.Entry.{Entry}
 use Rattle.store_core.specs.Contents.{StoredDocument, StoreContents as Content}
 use Rattle.store_core.specs.ValidStates.{AreDistinct}
 use Rattle.store_core.specs.inner.UnsharedTrees.{IsUnshared}
-use Rattle.store_core.specs.inner.StoreMemory.{IsStoring, all_as_unshared, as_unshared, content_in, stored_in, holder, len_in, number_in, trees_in, uris_in}
+use Rattle.store_core.specs.inner.StoreMemory.{IsConsistentStore, all_as_unshared, as_unshared, contents_view, stored_view, address_holder, entry_len, entry_number, unshared_flags, entry_addresses}
 use Rattle.store_core.proofs.AcceptedChanges.{sum-mapped}
 use Rattle.store_core.proofs.Entries.{each-mapped, each-unmapped, mapped}
 use Rattle.store_core.proofs.DocumentMaps.{looked-up, same-set}
@@ -47,7 +47,7 @@ module _ {X : Type 0} (read : Entry → X) (q : DocId → Bool) where
   pub read-missing : (es : List Row) → lookup q es ≡ None → lookup q (map read_row es) ≡ None
   read-missing es missing = read-of es ∙ ap (λ (o : Option Entry). option_map read o) missing
 
-pub found-tree : (es : List Row) (doc : DocId) (v : Entry) → lookup (same_id doc) es ≡ Some v → lookup (same_id doc) (trees_in es) ≡ Some v.tree.own
+pub found-tree : (es : List Row) (doc : DocId) (v : Entry) → lookup (same_id doc) es ≡ Some v → lookup (same_id doc) (unshared_flags es) ≡ Some v.tree.own
 found-tree es doc v found = read-found is_own (same_id doc) es v found
 
 -- ---- one entry replaced
@@ -81,7 +81,7 @@ module _ (doc : DocId) (es next : List Row) (v w : Entry) (written : next ≡ se
       ∙ ap (λ (x : Entry). set_value q (all_as_unshared es) x) same
       ∙ same-set q (all_as_unshared es) (as_unshared v) (read-found as_unshared q es v (sym there))
 
-  pub own-written : w.tree.own ≡ true → IsUnshared (trees_in next) doc
+  pub own-written : w.tree.own ≡ true → IsUnshared (unshared_flags next) doc
   own-written own = λ b found.
       let q = eq-value.it doc in
       let here : lookup (same_id doc) next ≡ Some w =
@@ -89,38 +89,38 @@ module _ (doc : DocId) (es next : List Row) (v w : Entry) (written : next ≡ se
       same_Some b w.tree.own (sym found ∙ found-tree next doc w here) ∙ own
 
 -- the tree of a document that isn't stored
-pub own-missing : (doc : DocId) (es : List Row) → None ≡ lookup (eq-value.it doc) es → IsUnshared (trees_in es) doc
+pub own-missing : (doc : DocId) (es : List Row) → None ≡ lookup (eq-value.it doc) es → IsUnshared (unshared_flags es) doc
 own-missing doc es none = λ b found.
-    let missing : lookup (same_id doc) (trees_in es) ≡ None = read-missing is_own (same_id doc) es (sym (looked-up doc es) ∙ sym none) in
+    let missing : lookup (same_id doc) (unshared_flags es) ≡ None = read-missing is_own (same_id doc) es (sym (looked-up doc es) ∙ sym none) in
     cc
 
 -- ---- what is unchanged
 
 abbrev HasLen : Row → Type 0
-HasLen e = e.1.len ≡ len_in e
+HasLen e = e.1.len ≡ entry_len e
 
-held-alike : (es : List Row) (uri : List ℕ) → holder (all_as_unshared es) uri ≡ holder es uri
+held-alike : (es : List Row) (uri : List ℕ) → address_holder (all_as_unshared es) uri ≡ address_holder es uri
 held-alike [] uri = refl
-held-alike (e ∷ es) uri = ap (λ (o : Option ℕ). cond (is_member bytes_eq (uris_in e) uri) (Some (number_in e)) o) (held-alike es uri)
+held-alike (e ∷ es) uri = ap (λ (o : Option ℕ). cond (is_member bytes_eq (entry_addresses e) uri) (Some (entry_number e)) o) (held-alike es uri)
 
 module _ (es ds : List Row) (same : all_as_unshared ds ≡ all_as_unshared es) where
-  same-held : map stored_in ds ≡ map stored_in es
-  same-held = sym (mapped stored_in own_row ds) ∙ ap (map stored_in) same ∙ mapped stored_in own_row es
+  same-held : map stored_view ds ≡ map stored_view es
+  same-held = sym (mapped stored_view own_row ds) ∙ ap (map stored_view) same ∙ mapped stored_view own_row es
 
-  same-numbers : map number_in ds ≡ map number_in es
-  same-numbers = sym (mapped number_in own_row ds) ∙ ap (map number_in) same ∙ mapped number_in own_row es
+  same-numbers : map entry_number ds ≡ map entry_number es
+  same-numbers = sym (mapped entry_number own_row ds) ∙ ap (map entry_number) same ∙ mapped entry_number own_row es
 
-  pub alike-content : (last : ℕ) → content_in ds last ≡ content_in es last
+  pub alike-content : (last : ℕ) → contents_view ds last ≡ contents_view es last
   alike-content last = ap (λ (hs : List StoredDocument). let c : Content = record { documents = hs; next = last + 1 } in c) same-held
 
-  pub alike-storing : (rs : List (List ℕ × ℕ)) (last total : ℕ) → IsStoring es rs last total → IsStoring ds rs last total
+  pub alike-storing : (rs : List (List ℕ × ℕ)) (last total : ℕ) → IsConsistentStore es rs last total → IsConsistentStore ds rs last total
   alike-storing rs last total s =
       let P : ℕ → Type 0 = λ n. n ≤ last in
       record {
         kept = (s.kept.0, alike-content last ∙ s.kept.1, s.kept.2);
-        addresses = λ uri. s.addresses uri ∙ sym (held-alike es uri) ∙ ap (λ (xs : List Row). holder xs uri) (sym same) ∙ held-alike ds uri;
+        addresses = λ uri. s.addresses uri ∙ sym (held-alike es uri) ∙ ap (λ (xs : List Row). address_holder xs uri) (sym same) ∙ held-alike ds uri;
         numbers = subst (λ (ns : List ℕ). AreDistinct ns) (sym same-numbers) s.numbers;
-        given = each-unmapped P number_in ds (subst (λ (ns : List ℕ). AllByRecursion P ns) (sym same-numbers) (each-mapped P number_in es s.given));
-        sum = s.sum ∙ sym (sum-mapped len_in own_row es) ∙ ap (sum_by len_in) (sym same) ∙ sum-mapped len_in own_row ds;
+        given = each-unmapped P entry_number ds (subst (λ (ns : List ℕ). AllByRecursion P ns) (sym same-numbers) (each-mapped P entry_number es s.given));
+        sum = s.sum ∙ sym (sum-mapped entry_len own_row es) ∙ ap (sum_by entry_len) (sym same) ∙ sum-mapped entry_len own_row ds;
         lens = each-unmapped HasLen own_row ds (subst (λ (xs : List Row). AllByRecursion HasLen xs) (sym same) (each-mapped HasLen own_row es s.lens));
       }

@@ -3,15 +3,15 @@ use Rattle.std.proofs.Common.{◌≡◌, ℕ, ◌+◌, Bool, true, false, not, c
 use Rattle.std.proofs.lemmas.List.{map-append, reverse-append}
 use Rattle.std.specs.List.{filter_map}
 use Rattle.doc_names.specs.declared.doc_id.DocId.{DocId}
-use Rattle.doc_names.specs.Equality.{same_id}
+use Rattle.doc_names.specs.NameEquality.{same_id}
 use Rattle.edit_ops.specs.Changes.{edited}
 use Rattle.edit_ops.specs.declared.change.Change.{Change}
 use Rattle.edit_ops.specs.Notes.{Note, note_of}
-use Rattle.edit_ops.specs.Operations.{weight}
-use Rattle.store_core.specs.State.{Document, State, versions, notes, retained, document_after, created}
-use Rattle.store_core.specs.Contents.{StoredDocument, Represents, stored_of, StoreContents as Content, stock_of as content_of}
-use Rattle.store_core.specs.DocumentChanges.{Act, Makes, Edits, Removes, act_of, after, after_act, content_after, content_after_act, held_after}
-use Rattle.store_core.proofs.Ends.{small_end-push}
+use Rattle.edit_ops.specs.DiffOperations.{weight}
+use Rattle.store_core.specs.State.{Document, State, versions, notes, retained_notes, document_after, created}
+use Rattle.store_core.specs.Contents.{StoredDocument, Represents, stored_document, StoreContents as Content, contents_of as content_of}
+use Rattle.store_core.specs.DocumentChanges.{ChangeKind, Makes, Edits, Removes, change_kind, state_after, state_after_by_kind, contents_after, contents_after_by_kind, stored_document_after}
+use Rattle.store_core.proofs.Ends.{longest_retained_end-push}
 
 -- ---- lists of documents
 
@@ -40,10 +40,10 @@ notes-document_after : (number : ℕ) (d : Document) (n : Note) → notes (docum
 notes-document_after number d n = reverse-append (n ∷ []) (filter_map (λ v. v.note) (versions d))
 
 -- a stored document after an edit
-held-document_after : (number : ℕ) (change : Change) (d : Document) → stored_of (document_after number d (note_of d.now.tag number d.now.tree change)) ≡ held_after number change (stored_of d)
+held-document_after : (number : ℕ) (change : Change) (d : Document) → stored_document (document_after number d (note_of d.now.tag number d.now.tree change)) ≡ stored_document_after number change (stored_document d)
 held-document_after number change d =
     let n = note_of d.now.tag number d.now.tree change in
-    let kept : retained (notes (document_after number d n)) ≡ retained (retained (notes d) ++ n ∷ []) = ap retained (notes-document_after number d n) ∙ sym (small_end-push weight (notes d) n) in
+    let kept : retained_notes (notes (document_after number d n)) ≡ retained_notes (retained_notes (notes d) ++ n ∷ []) = ap retained_notes (notes-document_after number d n) ∙ sym (longest_retained_end-push weight (notes d) n) in
     ap (λ (ns : List Note). let made : StoredDocument = record { id = d.id; tag = number; tree = edited d.now.tree change; notes = ns } in made) kept
 
 -- ---- all documents
@@ -51,24 +51,24 @@ held-document_after number change d =
 alike : (c d : Content) → c.documents ≡ d.documents → c.next ≡ d.next → c ≡ d
 alike c d documents next = ap₂ (λ (hs : List StoredDocument) (n : ℕ). let made : Content = record { documents = hs; next = n } in made) documents next
 
-stood : (c : Content) (m : State) (id : DocId) (change : Change) (act : Act) → c.documents ≡ map stored_of m.documents → c.next ≡ m.next → Represents (content_after_act c id change act) (after_act m id change act)
+stood : (c : Content) (m : State) (id : DocId) (change : Change) (act : ChangeKind) → c.documents ≡ map stored_document m.documents → c.next ≡ m.next → Represents (contents_after_by_kind c id change act) (state_after_by_kind m id change act)
 stood c m id change (Makes root) documents next =
-    alike (content_after_act c id change (Makes root)) (content_of (after_act m id change (Makes root)))
-    (ap (λ (n : ℕ). c.documents ++ stored_of (created id n root) ∷ []) next
-    ∙ ap (λ (hs : List StoredDocument). hs ++ stored_of (created id m.next root) ∷ []) documents
-    ∙ sym (map-append stored_of m.documents (created id m.next root ∷ [])))
+    alike (contents_after_by_kind c id change (Makes root)) (content_of (state_after_by_kind m id change (Makes root)))
+    (ap (λ (n : ℕ). c.documents ++ stored_document (created id n root) ∷ []) next
+    ∙ ap (λ (hs : List StoredDocument). hs ++ stored_document (created id m.next root) ∷ []) documents
+    ∙ sym (map-append stored_document m.documents (created id m.next root ∷ [])))
     (ap (λ n. n + 1) next)
 stood c m id change Edits documents next =
-    alike (content_after_act c id change Edits) (content_of (after_act m id change Edits))
-    (ap (λ (n : ℕ). map (λ (h : StoredDocument). cond (same_id id h.id) (held_after n change h) h) c.documents) next
-    ∙ ap (λ (hs : List StoredDocument). map (λ (h : StoredDocument). cond (same_id id h.id) (held_after m.next change h) h) hs) documents
-    ∙ sym (map-exchanged stored_of (λ (d : Document). same_id id d.id) (λ (h : StoredDocument). same_id id h.id) (λ d. refl) (λ (d : Document). document_after m.next d (note_of d.now.tag m.next d.now.tree change)) (held_after m.next change) (held-document_after m.next change) m.documents))
+    alike (contents_after_by_kind c id change Edits) (content_of (state_after_by_kind m id change Edits))
+    (ap (λ (n : ℕ). map (λ (h : StoredDocument). cond (same_id id h.id) (stored_document_after n change h) h) c.documents) next
+    ∙ ap (λ (hs : List StoredDocument). map (λ (h : StoredDocument). cond (same_id id h.id) (stored_document_after m.next change h) h) hs) documents
+    ∙ sym (map-exchanged stored_document (λ (d : Document). same_id id d.id) (λ (h : StoredDocument). same_id id h.id) (λ d. refl) (λ (d : Document). document_after m.next d (note_of d.now.tag m.next d.now.tree change)) (stored_document_after m.next change) (held-document_after m.next change) m.documents))
     (ap (λ n. n + 1) next)
 stood c m id change Removes documents next =
-    alike (content_after_act c id change Removes) (content_of (after_act m id change Removes))
+    alike (contents_after_by_kind c id change Removes) (content_of (state_after_by_kind m id change Removes))
     (ap (λ (hs : List StoredDocument). filter (λ (h : StoredDocument). not (same_id id h.id)) hs) documents
-    ∙ sym (map-filtered stored_of (λ (d : Document). not (same_id id d.id)) (λ (h : StoredDocument). not (same_id id h.id)) (λ d. refl) m.documents))
+    ∙ sym (map-filtered stored_document (λ (d : Document). not (same_id id d.id)) (λ (h : StoredDocument). not (same_id id h.id)) (λ d. refl) m.documents))
     (ap (λ n. n + 1) next)
 
-pub stands-after : (c : Content) (m : State) (id : DocId) (change : Change) → Represents c m → Represents (content_after c id change) (after m id change)
-stands-after c m id change s = stood c m id change (act_of change) (ap (λ (x : Content). x.documents) s) (ap (λ (x : Content). x.next) s)
+pub stands-state_after : (c : Content) (m : State) (id : DocId) (change : Change) → Represents c m → Represents (contents_after c id change) (state_after m id change)
+stands-state_after c m id change s = stood c m id change (change_kind change) (ap (λ (x : Content). x.documents) s) (ap (λ (x : Content). x.next) s)

@@ -2,18 +2,18 @@
 use Rattle.std.proofs.Common.{◌≡◌, ℕ, ◌==◌, Bool, true, false, if◌then◌else◌, List, [], ◌∷◌, ◌++◌, map, Option, None, Some, refl, sym, ap, ◌∙◌}
 use Rattle.std.specs.Map.{lookup}
 use Rattle.std.specs.Option.{option_map}
-use Rattle.doc_names.specs.Equality.{same_id}
+use Rattle.doc_names.specs.NameEquality.{same_id}
 use Rattle.doc_names.specs.declared.doc_id.DocId.{DocId}
 use Rattle.edit_ops.specs.Notes.{Note}
 use Rattle.edit_ops.specs.RecordParts.{all_notes as joined}
 use Rattle.store_core.specs.declared.entry.Entry.{Entry}
-use Rattle.store_core.specs.DocumentChanges.{document_in, stored_name}
+use Rattle.store_core.specs.DocumentChanges.{find_document, stored_id}
 use Rattle.store_core.specs.Contents.{StoredDocument}
 use Rattle.store_core.specs.Since.{ChangesSince, Gone, ReportedChanges, notes_from, since}
-use Rattle.store_core.specs.inner.ChangesSince.{held_since, changes_since_of}
-use Rattle.store_core.specs.inner.StoreMemory.{stored_in}
+use Rattle.store_core.specs.inner.ChangesSince.{stored_changes_since, changes_since_of}
+use Rattle.store_core.specs.inner.StoreMemory.{stored_view}
 use Rattle.store_core.proofs.Entries.{read-as}
-use Rattle.store_core.specs.StoreViews.{Stored}
+use Rattle.store_core.specs.StoreViews.{StoreView}
 
 -- ---- in two slices
 
@@ -46,14 +46,14 @@ abbrev pub or_gone : Option ChangesSince → ChangesSince
 or_gone None = Gone
 or_gone (Some s) = s
 
-held-or-gone : (tag : ℕ) (o : Option StoredDocument) → held_since tag o ≡ or_gone (option_map (λ h. held_since tag (Some h)) o)
+held-or-gone : (tag : ℕ) (o : Option StoredDocument) → stored_changes_since tag o ≡ or_gone (option_map (λ h. stored_changes_since tag (Some h)) o)
 held-or-gone tag None = refl
 held-or-gone tag (Some h) = refl
 
-pub by-entry : (es : List (DocId × Entry)) (doc : DocId) (tag : ℕ) (s : Stored) (o : Option Entry) → map stored_in es ≡ s.content.documents → o ≡ lookup (same_id doc) es
+pub by-entry : (es : List (DocId × Entry)) (doc : DocId) (tag : ℕ) (s : StoreView) (o : Option Entry) → map stored_view es ≡ s.content.documents → o ≡ lookup (same_id doc) es
     → or_gone (option_map (entry_story tag) o) ≡ since s.content doc tag
 by-entry es doc tag s o same found =
     ap (λ (l : Option Entry). or_gone (option_map (entry_story tag) l)) found
-    ∙ ap or_gone (sym (read-as (same_id doc) stored_in stored_name (λ e. refl) (λ (h : StoredDocument). held_since tag (Some h)) (entry_story tag) (λ e. refl) es))
-    ∙ sym (held-or-gone tag (document_in stored_name (map stored_in es) doc))
-    ∙ ap (λ (hs : List StoredDocument). held_since tag (document_in stored_name hs doc)) same
+    ∙ ap or_gone (sym (read-as (same_id doc) stored_view stored_id (λ e. refl) (λ (h : StoredDocument). stored_changes_since tag (Some h)) (entry_story tag) (λ e. refl) es))
+    ∙ sym (held-or-gone tag (find_document stored_id (map stored_view es) doc))
+    ∙ ap (λ (hs : List StoredDocument). stored_changes_since tag (find_document stored_id hs doc)) same

@@ -1,13 +1,13 @@
 -- An edit that isn't one within the root replaces the root by the element that it puts.
 use Rattle.std.proofs.Common.{◌≡◌, false, [], ◌∷◌, refl}
 use Rattle.xml_tree.specs.Tree.{Tree}
-use Rattle.edit_ops.specs.Changes.{Fits, edited}
+use Rattle.edit_ops.specs.Changes.{FitsTree, edited}
 use Rattle.edit_ops.specs.declared.change.Change.{Change}
 use Rattle.edit_ops.specs.declared.change.Change.TheVariants.{CreateDocument, Insert, Replace, Remove, SetAttr, DropAttr, RemoveDocument}
-use Rattle.edit_ops.specs.InsertedElements.{BringsElement, inserted_part}
-use Rattle.store_core.specs.TreeChanges.{is_within}
+use Rattle.edit_ops.specs.InsertedElements.{InsertsElement, inserted_element}
+use Rattle.store_core.specs.TreeChanges.{edits_within_root}
 
-pub brings-whole : (t : Tree) (change : Change) → Fits t change → is_within change ≡ false → BringsElement change
+pub brings-whole : (t : Tree) (change : Change) → FitsTree t change → edits_within_root change ≡ false → InsertsElement change
 brings-whole t (CreateDocument root) fits whole = tt
 brings-whole t (Insert parent gap element) fits whole = tt
 brings-whole t (Replace p element) fits whole = tt
@@ -16,7 +16,7 @@ brings-whole t (SetAttr p name value) fits whole = cc
 brings-whole t (DropAttr p name) fits whole = cc
 brings-whole t RemoveDocument fits whole = absurd fits
 
-pub whole-edited : (t : Tree) (change : Change) → Fits t change → is_within change ≡ false → inserted_part change ≡ edited t change
+pub whole-edited : (t : Tree) (change : Change) → FitsTree t change → edits_within_root change ≡ false → inserted_element change ≡ edited t change
 whole-edited t (CreateDocument root) fits whole = absurd fits
 whole-edited t (Insert parent gap element) fits whole = cc
 whole-edited t (Replace [] element) fits whole = refl

@@ -3,29 +3,30 @@
 -- address once.
 use Rattle.std.specs.Prelude.{◌≡◌, ◌≤◌, length, sum_by, None, IsSome, IsSomeAnd}
 use Rattle.usage_docs.specs.Services.{document_len}
-use Rattle.doc_names.specs.Ids.{IsAddressable}
+use Rattle.doc_names.specs.DocIds.{IsAddressable}
 use Rattle.doc_names.specs.declared.doc_id.DocId.{DocId}
-use Rattle.edit_ops.specs.Changes.{Fits, edited}
+use Rattle.edit_ops.specs.Changes.{FitsTree, edited}
 use Rattle.edit_ops.specs.declared.change.Change.{Change}
 use Rattle.store_core.specs.declared.limits.TheConstants.{MAX_BYTES_TOGETHER, MAX_DOCUMENTS}
 use Rattle.store_core.specs.State.{State}
-use Rattle.store_core.specs.ValidStates.{AreDistinct, IsSoundFor, IsUserDocument, addresses}
+use Rattle.store_core.specs.ValidStates.{AreDistinct, IsSoundDocumentFor, IsUserHome, all_addresses}
 use Rattle.doc_names.specs.Usages.{usage_of}
-use Rattle.store_core.specs.DocumentChanges.{Act, Makes, Edits, Removes, act_of, after, document_in}
-use Rattle.store_core.specs.DocumentChanges.{document_name}
+use Rattle.store_core.specs.DocumentChanges.{ChangeKind, Makes, Edits, Removes, change_kind}
+use Rattle.store_core.specs.DocumentChanges.{state_after, find_document}
+use Rattle.store_core.specs.DocumentChanges.{document_id}
 
-abbrev pub SuitsAct : State → DocId → Change → Act → Type 0
-SuitsAct m id change (Makes root) =
-    (document_in document_name m.documents id ≡ None) × IsAddressable id × IsUserDocument id.home
-    × IsSoundFor (usage_of id.auid) root
-SuitsAct m id change Edits =
-    IsSomeAnd (document_in document_name m.documents id) (λ d.
-    Fits d.now.tree change × IsSoundFor (usage_of d.id.auid) (edited d.now.tree change))
-SuitsAct m id change Removes = IsSome (document_in document_name m.documents id)
+abbrev pub IsAcceptableByKind : State → DocId → Change → ChangeKind → Type 0
+IsAcceptableByKind m id change (Makes root) =
+    (find_document document_id m.documents id ≡ None) × IsAddressable id × IsUserHome id.home
+    × IsSoundDocumentFor (usage_of id.auid) root
+IsAcceptableByKind m id change Edits =
+    IsSomeAnd (find_document document_id m.documents id) (λ d.
+    FitsTree d.now.tree change × IsSoundDocumentFor (usage_of d.id.auid) (edited d.now.tree change))
+IsAcceptableByKind m id change Removes = IsSome (find_document document_id m.documents id)
 
-pub record Suits (m : State) (id : DocId) (change : Change) : Type 0 where
-  pub act : SuitsAct m id change (act_of change)
-  pub services : AreDistinct (addresses (after m id change).documents)
-  pub few : length (after m id change).documents ≤ MAX_DOCUMENTS
-  pub room : sum_by (λ d. document_len d.now.tree) (after m id change).documents
+pub record IsAcceptable (m : State) (id : DocId) (change : Change) : Type 0 where
+  pub act : IsAcceptableByKind m id change (change_kind change)
+  pub services : AreDistinct (all_addresses (state_after m id change).documents)
+  pub few : length (state_after m id change).documents ≤ MAX_DOCUMENTS
+  pub room : sum_by (λ d. document_len d.now.tree) (state_after m id change).documents
       ≤ MAX_BYTES_TOGETHER

@@ -5,7 +5,7 @@ use Rattle.store_core.specs.Since as since
 use Rattle.store_core.specs.declared.since.Since.{Since}
 use Rattle.store_core.specs.declared.since.Since.TheVariants.{Gone, Unknown, Changes}
 
-abbrev pub changes_since_in : Since → ChangesSince
-changes_since_in Gone = since.Gone
-changes_since_in Unknown = since.Unknown
-changes_since_in (Changes ns) = ReportedChanges (all_notes ns.older.now ns.newer.now)
+abbrev pub changes_since_view : Since → ChangesSince
+changes_since_view Gone = since.Gone
+changes_since_view Unknown = since.Unknown
+changes_since_view (Changes ns) = ReportedChanges (all_notes ns.older.now ns.newer.now)

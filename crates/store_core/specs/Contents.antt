@@ -4,7 +4,7 @@ use Rattle.std.specs.Prelude.{◌≡◌, ℕ, List, map}
 use Rattle.xml_tree.specs.Tree.{Tree}
 use Rattle.doc_names.specs.declared.doc_id.DocId.{DocId}
 use Rattle.edit_ops.specs.Notes.{Note}
-use Rattle.store_core.specs.State.{Document, State, notes, retained}
+use Rattle.store_core.specs.State.{Document, State, notes, retained_notes}
 
 -- a stored document: its name, its present etag and tree, and its retained change records
 pub record StoredDocument : Type 0 where
@@ -18,13 +18,14 @@ pub record StoreContents : Type 0 where
   pub documents : List StoredDocument
   pub next : ℕ
 
-abbrev pub stored_of : Document → StoredDocument
-stored_of d = record { id = d.id; tag = d.now.tag; tree = d.now.tree; notes = retained (notes d) }
+abbrev pub stored_document : Document → StoredDocument
+stored_document d =
+    record { id = d.id; tag = d.now.tag; tree = d.now.tree; notes = retained_notes (notes d) }
 
 -- the contents that represent a state
-abbrev pub stock_of : State → StoreContents
-stock_of m = record { documents = map stored_of m.documents; next = m.next }
+abbrev pub contents_of : State → StoreContents
+contents_of m = record { documents = map stored_document m.documents; next = m.next }
 
 -- contents that represent the state
 abbrev pub Represents : StoreContents → State → Type 0
-Represents content state = content ≡ stock_of state
+Represents content state = content ≡ contents_of state

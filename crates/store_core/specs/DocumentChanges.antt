@@ -10,9 +10,9 @@ use Rattle.std.specs.Option.{option_or}
 use Rattle.xml_tree.specs.Tree.{Tree}
 use Rattle.xml_names.specs.Limits.{u64_max}
 use Rattle.usage_docs.specs.Services.{document_len}
-use Rattle.usage_docs.specs.declared.keys.Clash.{Clash}
+use Rattle.usage_docs.specs.declared.key_repeats.Clash.{Clash}
 use Rattle.usage_docs.specs.declared.schema_table.Key.TheVariants.{Uri}
-use Rattle.doc_names.specs.Equality.{same_id}
+use Rattle.doc_names.specs.NameEquality.{same_id}
 use Rattle.doc_names.specs.declared.doc_id.DocId.{DocId}
 use Rattle.edit_ops.specs.Changes.{edited}
 use Rattle.edit_ops.specs.declared.change.Change.{Change}
@@ -23,16 +23,16 @@ use Rattle.store_core.specs.declared.limits.TheConstants.{MAX_DOCUMENTS}
 use Rattle.store_core.specs.declared.refusal.StoreRefusal.{StoreRefusal}
 use Rattle.store_core.specs.declared.refusal.StoreRefusal.TheVariants.{ServiceTaken, TooLarge}
 use Rattle.store_core.specs.declared.refusal.StoreRefusal.TheVariants.{TooMany, StoreFull, NoNumber}
-use Rattle.store_core.specs.State.{Document, State, created, document_after, retained}
+use Rattle.store_core.specs.State.{Document, State, created, document_after, retained_notes}
 use Rattle.store_core.specs.Contents.{StoredDocument, StoreContents}
-use Rattle.store_core.specs.ValidStates.{addresses_in}
+use Rattle.store_core.specs.ValidStates.{document_addresses}
 
 -- ---- lists of documents, whatever is stored of each
 
 module _ {D : Type 0} (id_of : D → DocId) where
   -- the document of this name
-  abbrev pub document_in : List D → DocId → Option D
-  document_in ds id = find (λ d. same_id id (id_of d)) ds
+  abbrev pub find_document : List D → DocId → Option D
+  find_document ds id = find (λ d. same_id id (id_of d)) ds
 
   -- the list with the document of this name replaced by what f makes of it
   abbrev pub with_document : (D → D) → List D → DocId → List D
@@ -42,74 +42,74 @@ module _ {D : Type 0} (id_of : D → DocId) where
   abbrev pub without_document : List D → DocId → List D
   without_document ds id = filter (λ d. not (same_id id (id_of d))) ds
 
-abbrev pub document_name : Document → DocId
-document_name d = d.id
+abbrev pub document_id : Document → DocId
+document_id d = d.id
 
-abbrev pub stored_name : StoredDocument → DocId
-stored_name h = h.id
+abbrev pub stored_id : StoredDocument → DocId
+stored_id h = h.id
 
 -- ---- what a change does
 
 -- it creates a document, with this root; or it edits one; or it removes one
-pub data Act : Type 0 where
-  Makes : Tree → Act
-  Edits : Act
-  Removes : Act
+pub data ChangeKind : Type 0 where
+  Makes : Tree → ChangeKind
+  Edits : ChangeKind
+  Removes : ChangeKind
 
-abbrev pub act_of : Change → Act
-act_of (CreateDocument root) = Makes root
-act_of RemoveDocument = Removes
-act_of _ = Edits
+abbrev pub change_kind : Change → ChangeKind
+change_kind (CreateDocument root) = Makes root
+change_kind RemoveDocument = Removes
+change_kind _ = Edits
 
 -- ---- the state
 
-abbrev pub after_act : State → DocId → Change → Act → State
-after_act m id change (Makes root) =
+abbrev pub state_after_by_kind : State → DocId → Change → ChangeKind → State
+state_after_by_kind m id change (Makes root) =
     record { documents = m.documents ++ created id m.next root ∷ []; next = m.next + 1 }
-after_act m id change Edits =
+state_after_by_kind m id change Edits =
     record {
       documents =
-          with_document document_name
+          with_document document_id
           (λ d. document_after m.next d (note_of d.now.tag m.next d.now.tree change)) m.documents
           id;
       next = m.next + 1;
     }
-after_act m id change Removes =
-    record { documents = without_document document_name m.documents id; next = m.next + 1 }
+state_after_by_kind m id change Removes =
+    record { documents = without_document document_id m.documents id; next = m.next + 1 }
 
 -- the state after a change that is accepted
-abbrev pub after : State → DocId → Change → State
-after m id change = after_act m id change (act_of change)
+abbrev pub state_after : State → DocId → Change → State
+state_after m id change = state_after_by_kind m id change (change_kind change)
 
 -- ---- the store
 
 -- a document after an edit
-abbrev pub held_after : ℕ → Change → StoredDocument → StoredDocument
-held_after number change h =
+abbrev pub stored_document_after : ℕ → Change → StoredDocument → StoredDocument
+stored_document_after number change h =
     record {
       id = h.id;
       tag = number;
       tree = edited h.tree change;
-      notes = retained (h.notes ++ note_of h.tag number h.tree change ∷ []);
+      notes = retained_notes (h.notes ++ note_of h.tag number h.tree change ∷ []);
     }
 
-abbrev pub content_after_act : StoreContents → DocId → Change → Act → StoreContents
-content_after_act c id change (Makes root) =
+abbrev pub contents_after_by_kind : StoreContents → DocId → Change → ChangeKind → StoreContents
+contents_after_by_kind c id change (Makes root) =
     record {
       documents = c.documents ++ record { id = id; tag = c.next; tree = root; notes = [] } ∷ [];
       next = c.next + 1;
     }
-content_after_act c id change Edits =
+contents_after_by_kind c id change Edits =
     record {
-      documents = with_document stored_name (held_after c.next change) c.documents id;
+      documents = with_document stored_id (stored_document_after c.next change) c.documents id;
       next = c.next + 1;
     }
-content_after_act c id change Removes =
-    record { documents = without_document stored_name c.documents id; next = c.next + 1 }
+contents_after_by_kind c id change Removes =
+    record { documents = without_document stored_id c.documents id; next = c.next + 1 }
 
 -- the contents after a change that the store makes
-abbrev pub content_after : StoreContents → DocId → Change → StoreContents
-content_after c id change = content_after_act c id change (act_of change)
+abbrev pub contents_after : StoreContents → DocId → Change → StoreContents
+contents_after c id change = contents_after_by_kind c id change (change_kind change)
 
 -- ---- why a change is refused
 
@@ -122,34 +122,36 @@ first_taken_address others own =
 -- the addresses of the other documents, and the lengths of their prints together
 abbrev pub other_addresses : StoreContents → DocId → List (List ℕ)
 other_addresses c id =
-    flat_map (λ h. addresses_in h.id.auid h.tree) (without_document stored_name c.documents id)
+    flat_map (λ h. document_addresses h.id.auid h.tree) (without_document stored_id c.documents id)
 
-abbrev pub other_lengths : StoreContents → DocId → ℕ
-other_lengths c id = sum_by (λ h. document_len h.tree) (without_document stored_name c.documents id)
+abbrev pub total_len_of_others : StoreContents → DocId → ℕ
+total_len_of_others c id =
+    sum_by (λ h. document_len h.tree) (without_document stored_id c.documents id)
 
-abbrev pub only_if : Bool → StoreRefusal → Option StoreRefusal
-only_if holds refusal = if holds then Some refusal else None
+abbrev pub refusal_if : Bool → StoreRefusal → Option StoreRefusal
+refusal_if holds refusal = if holds then Some refusal else None
 
 -- another document has the address of one of the services
 abbrev pub refusal_of_services : StoreContents → DocId → Tree → Option StoreRefusal
 refusal_of_services c id t =
     option_map (λ clash. ServiceTaken clash)
-    (first_taken_address (other_addresses c id) (addresses_in id.auid t))
+    (first_taken_address (other_addresses c id) (document_addresses id.auid t))
 
 -- the document is too long
 abbrev pub refusal_of_length : Tree → Option StoreRefusal
 refusal_of_length t =
-    only_if (nat_lt MAX_DOCUMENT_BYTES (document_len t)) (TooLarge (min (document_len t) u64_max))
+    refusal_if (nat_lt MAX_DOCUMENT_BYTES (document_len t))
+    (TooLarge (min (document_len t) u64_max))
 
 -- a new document is one too many
 abbrev pub refusal_of_count : StoreContents → Bool → Option StoreRefusal
-refusal_of_count c is_new = only_if (is_new && nat_le MAX_DOCUMENTS (length c.documents)) TooMany
+refusal_of_count c is_new = refusal_if (is_new && nat_le MAX_DOCUMENTS (length c.documents)) TooMany
 
 -- all documents together are too long
 abbrev pub refusal_of_total : StoreContents → DocId → Tree → Option StoreRefusal
 refusal_of_total c id t =
-    only_if (nat_lt MAX_BYTES_TOGETHER (other_lengths c id + document_len t))
-    (StoreFull (other_lengths c id + document_len t))
+    refusal_if (nat_lt MAX_BYTES_TOGETHER (total_len_of_others c id + document_len t))
+    (StoreFull (total_len_of_others c id + document_len t))
 
 -- the first reason against a tree that the document would have; is_new says whether it isn't
 -- stored yet
@@ -162,9 +164,9 @@ refusal_of_tree c id is_new t =
 
 -- a reason against the number that the change would get: it doesn't fit 64 bits
 abbrev pub refusal_of_number : StoreContents → Option StoreRefusal
-refusal_of_number c = only_if (nat_le (u64_max + 1) c.next) NoNumber
+refusal_of_number c = refusal_if (nat_le (u64_max + 1) c.next) NoNumber
 
-abbrev pub refusal_of : StoreContents → DocId → Change → Option StoredDocument → Act
+abbrev pub refusal_of : StoreContents → DocId → Change → Option StoredDocument → ChangeKind
     → Option StoreRefusal
 refusal_of c id change held (Makes root) =
     option_or (refusal_of_tree c id true root) (refusal_of_number c)
@@ -190,5 +192,6 @@ refusal_or (Some refusal) note next = Err refusal
 abbrev pub change_result : StoreContents → DocId → Change
     → Result (Note × StoreContents) StoreRefusal
 change_result c id change =
-    refusal_or (refusal_of c id change (document_in stored_name c.documents id) (act_of change))
-    (note_for c id change (document_in stored_name c.documents id)) (content_after c id change)
+    refusal_or
+    (refusal_of c id change (find_document stored_id c.documents id) (change_kind change))
+    (note_for c id change (find_document stored_id c.documents id)) (contents_after c id change)

@@ -18,25 +18,25 @@ unfoldable pub index : List ℕ
 index = chars (codes "index")
 
 -- a user's name and the tree of the document of services that the index lists
-abbrev pub indexed_in : Home → Tree → Option (List ℕ × Tree)
-indexed_in Global t = None
-indexed_in (User xui) t = Some (xui, t)
+abbrev pub home_entry : Home → Tree → Option (List ℕ × Tree)
+home_entry Global t = None
+home_entry (User xui) t = Some (xui, t)
 
-abbrev pub indexed_by : Auid → Bool → Home → Tree → Option (List ℕ × Tree)
-indexed_by RlsServices true home t = indexed_in home t
-indexed_by _ _ home t = None
+abbrev pub entry_if_listed : Auid → Bool → Home → Tree → Option (List ℕ × Tree)
+entry_if_listed RlsServices true home t = home_entry home t
+entry_if_listed _ _ home t = None
 
 abbrev pub index_entry : StoredDocument → Option (List ℕ × Tree)
-index_entry h = indexed_by h.id.auid (bytes_eq h.id.name index) h.id.home h.tree
+index_entry h = entry_if_listed h.id.auid (bytes_eq h.id.name index) h.id.home h.tree
 
 -- these documents in the order of the users' names, by code point; documents of one user keep
 -- their order
-pub record AreByUser (documents ordered : List (List ℕ × Tree)) : Type 0 where
+pub record IsSortedByUser (documents ordered : List (List ℕ × Tree)) : Type 0 where
   pub rises : IsSortedByKey (λ (d : List ℕ × Tree). d.0) (slice_cmp nat_cmp) ordered
   pub keeps : IsStableByKey (λ (d : List ℕ × Tree). d.0) (slice_cmp nat_cmp) documents ordered
 
 -- the trees that the index lists, by the users' names
 abbrev pub AreIndexTrees : StoreContents → List Tree → Type 0
 AreIndexTrees c trees =
-    (ordered : List (List ℕ × Tree)) × AreByUser (filter_map index_entry c.documents) ordered
+    (ordered : List (List ℕ × Tree)) × IsSortedByUser (filter_map index_entry c.documents) ordered
     × (trees ≡ map (λ d. d.1) ordered)

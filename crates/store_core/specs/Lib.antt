@@ -1,15 +1,15 @@
 pub mod AcceptableChanges
+pub mod ChangePreconditions
 pub mod ChangesSince
 pub mod Contents
 pub mod DocumentChanges
 pub mod History
 pub mod Indexes
 pub mod PreparedChanges
-pub mod Queries
 pub mod Since
 pub mod State
 pub mod StoreViews
+pub mod StoredTrees
 pub mod TreeChanges
-pub mod Trees
 pub mod ValidStates
 pub mod inner

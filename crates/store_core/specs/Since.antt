@@ -5,7 +5,7 @@ use Rattle.std.specs.Option.{option_map_or}
 use Rattle.doc_names.specs.declared.doc_id.DocId.{DocId}
 use Rattle.edit_ops.specs.Notes.{Note}
 use Rattle.store_core.specs.Contents.{StoreContents}
-use Rattle.store_core.specs.DocumentChanges.{document_in, stored_name}
+use Rattle.store_core.specs.DocumentChanges.{find_document, stored_id}
 
 -- the document isn't stored; the etag is neither its own nor the one before a retained record; or
 -- the records from that etag on
@@ -25,4 +25,4 @@ since c id tag =
     option_map_or (λ h.
     if h.tag == tag then ReportedChanges []
     else option_map_or ReportedChanges (notes_from tag h.notes) Unknown)
-    (document_in stored_name c.documents id) Gone
+    (find_document stored_id c.documents id) Gone

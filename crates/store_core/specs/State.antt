@@ -6,7 +6,7 @@ use Rattle.xml_tree.specs.Tree.{Tree}
 use Rattle.doc_names.specs.declared.doc_id.DocId.{DocId}
 use Rattle.edit_ops.specs.Changes.{edited}
 use Rattle.edit_ops.specs.Notes.{Note}
-use Rattle.edit_ops.specs.Operations.{weight}
+use Rattle.edit_ops.specs.DiffOperations.{weight}
 use Rattle.store_core.specs.declared.limits.TheConstants.{MAX_NOTES, MAX_WEIGHT}
 
 -- a version: its etag, its tree, and the record of the change that made it from the version before
@@ -41,19 +41,20 @@ notes d = reverse (filter_map (λ v. v.note) (versions d))
 -- ---- which records are retained, for subscribers with an older version
 
 -- no more items than records may be retained, and no heavier together than these may be
-abbrev pub is_small : {A : Type 0} → (A → ℕ) → List A → Bool
-is_small weight xs = nat_le (length xs) MAX_NOTES && nat_le (sum_by weight xs) MAX_WEIGHT
+abbrev pub is_within_retention : {A : Type 0} → (A → ℕ) → List A → Bool
+is_within_retention weight xs = nat_le (length xs) MAX_NOTES && nat_le (sum_by weight xs) MAX_WEIGHT
 
 -- the longest end of the list that is small; the last item is always in it
-abbrev pub small_end : {A : Type 0} → (A → ℕ) → List A → List A
-small_end weight [] = []
-small_end weight (x ∷ []) = x ∷ []
-small_end weight (x ∷ y ∷ xs) =
-    if is_small weight (x ∷ y ∷ xs) then x ∷ y ∷ xs else small_end weight (y ∷ xs)
+abbrev pub longest_retained_end : {A : Type 0} → (A → ℕ) → List A → List A
+longest_retained_end weight [] = []
+longest_retained_end weight (x ∷ []) = x ∷ []
+longest_retained_end weight (x ∷ y ∷ xs) =
+    if is_within_retention weight (x ∷ y ∷ xs) then x ∷ y ∷ xs
+    else longest_retained_end weight (y ∷ xs)
 
 -- the retained records; a record weighs as many bytes as its operation's text has
-abbrev pub retained : List Note → List Note
-retained ns = small_end weight ns
+abbrev pub retained_notes : List Note → List Note
+retained_notes ns = longest_retained_end weight ns
 
 -- ---- a change of a document
 

@@ -8,19 +8,19 @@ use Rattle.store_core.specs.Contents.{StoreContents}
 
 -- how many documents, and how many service addresses, the store can add without allocating; and of
 -- each document whether its tree is unshared, so that it can be changed in place
-pub record Room : Type 0 where
+pub record SpareCapacity : Type 0 where
   pub documents : ℕ
   pub services : ℕ
   pub trees : List (DocId × Bool)
 
 -- a store's contents, and its reserved memory
-pub record Stored : Type 0 where
+pub record StoreView : Type 0 where
   pub content : StoreContents
-  pub room : Room
+  pub room : SpareCapacity
 
 -- the entry of a document created with this number, whose change record shares its tree
-abbrev pub entry_of : ℕ → Tree → Entry
-entry_of number t =
+abbrev pub new_entry : ℕ → Tree → Entry
+new_entry number t =
     record {
       created = number;
       tag = number;

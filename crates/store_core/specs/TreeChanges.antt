@@ -12,27 +12,28 @@ use Rattle.store_core.specs.declared.staged_tree.StagedTree.{StagedTree}
 use Rattle.store_core.specs.declared.staged_tree.StagedTree.TheVariants.{Whole, InPlace}
 
 -- the path leads to an element below the root
-abbrev pub leads_below : List ℕ → Bool
-leads_below [] = false
-leads_below (n ∷ p) = true
+abbrev pub is_below_root : List ℕ → Bool
+is_below_root [] = false
+is_below_root (n ∷ p) = true
 
 -- the change keeps the root of the document, and changes something in it
-abbrev pub is_within : Change → Bool
-is_within (CreateDocument root) = false
-is_within (Insert parent gap element) = true
-is_within (Replace p element) = leads_below p
-is_within (Remove p) = true
-is_within (SetAttr p name value) = true
-is_within (DropAttr p name) = true
-is_within RemoveDocument = false
+abbrev pub edits_within_root : Change → Bool
+edits_within_root (CreateDocument root) = false
+edits_within_root (Insert parent gap element) = true
+edits_within_root (Replace p element) = is_below_root p
+edits_within_root (Remove p) = true
+edits_within_root (SetAttr p name value) = true
+edits_within_root (DropAttr p name) = true
+edits_within_root RemoveDocument = false
 
 -- what the change inserts into the tree: the whole new tree, or, where it is one within the root,
 -- what it inserts in place
-abbrev pub IsStagedIn : Tree → Change → StagedTree → Type 0
-IsStagedIn t change (Whole root) = root ≡ edited t change
-IsStagedIn t change (InPlace staged) = IsStaged t change staged × (is_within change ≡ true)
+abbrev pub IsStagedTreeFor : Tree → Change → StagedTree → Type 0
+IsStagedTreeFor t change (Whole root) = root ≡ edited t change
+IsStagedTreeFor t change (InPlace staged) =
+    IsStaged t change staged × (edits_within_root change ≡ true)
 
 -- what is inserted in place needs an unshared tree
-abbrev pub NeedsUnshared : StagedTree → Bool → Type 0
-NeedsUnshared (Whole root) own = Unit {0}
-NeedsUnshared (InPlace staged) own = own ≡ true
+abbrev pub IsUnsharedIfInPlace : StagedTree → Bool → Type 0
+IsUnsharedIfInPlace (Whole root) own = Unit {0}
+IsUnsharedIfInPlace (InPlace staged) own = own ≡ true

@@ -3,7 +3,7 @@ pub mod Addresses
 pub mod ChangePlans
 pub mod ChangesSince
 pub mod Prints
-pub mod Rings
+pub mod RecordRings
 pub mod Roots
 pub mod ServiceListing
 pub mod StoreMemory

@@ -2,14 +2,18 @@
 //! 4.4.5).
 ghost use Rattle.std.specs.Prelude.{◌≡◌, ◌∷◌, [], IfOk};
 ghost use Rattle.std.specs.Str.{bytes_eq};
-ghost use Rattle.usage_docs.specs.Keys.{word};
+ghost use Rattle.usage_docs.specs.KeyAttributes.{attribute_name};
 ghost use Rattle.usage_docs.specs.Services.{service_uris};
 ghost use Rattle.usage_docs.specs.declared.schema_table.Key.TheVariants as keys;
-ghost use Rattle.store_core.specs.ValidStates.{addresses_in};
-ghost use Rattle.store_core.specs.inner.Addresses.{address, address_at, addresses_at, enter_in};
-ghost use Rattle.store_core.specs.inner.Addresses.{first, first_number, is_uri, leave_in, put_at};
-ghost use Rattle.store_core.specs.inner.Addresses.{added_address, services_enter, services_leave};
-ghost use Rattle.store_core.specs.inner.Addresses.{written_at};
+ghost use Rattle.store_core.specs.ValidStates.{document_addresses};
+ghost use Rattle.store_core.specs.inner.Addresses.{service_address, service_address_at};
+ghost use Rattle.store_core.specs.inner.Addresses.{replaced_addresses, added_addresses_of};
+ghost use Rattle.store_core.specs.inner.Addresses.{first_path_number, first_added_number};
+ghost use Rattle.store_core.specs.inner.Addresses.{is_uri_name, removed_addresses_of};
+ghost use Rattle.store_core.specs.inner.Addresses.{addresses_put_at};
+ghost use Rattle.store_core.specs.inner.Addresses.{added_address, added_service_addresses};
+ghost use Rattle.store_core.specs.inner.Addresses.{removed_service_addresses};
+ghost use Rattle.store_core.specs.inner.Addresses.{address_set_at};
 
 use doc_names::Auid;
 use edit_ops::Change;
@@ -34,7 +38,7 @@ fn service_addresses(alloc: Global, root: &Element) -> Result<List<Text>, AllocE
 
 /// The service addresses of a document of this AUID, in order; of the other AUIDs there are none.
 pub(crate) fn addresses(alloc: Global, auid: Auid, root: &Element) -> Result<List<Text>, AllocError>
-    ensures ok { IfOk result (λ made. made ≡ addresses_in auid root.now) }
+    ensures ok { IfOk result (λ made. made ≡ document_addresses auid root.now) }
 {
     match auid {
         Auid::RlsServices => service_addresses(alloc, root),
@@ -46,7 +50,7 @@ pub(crate) fn addresses(alloc: Global, auid: Auid, root: &Element) -> Result<Lis
 // ---- of one service
 
 // A list of one text.
-fn one(alloc: Global, text: Text) -> Result<List<Text>, AllocError>
+fn list_of_one(alloc: Global, text: Text) -> Result<List<Text>, AllocError>
     ensures ok { IfOk result (λ made. made ≡ text ∷ []) }
 {
     let mut made = List::empty(alloc);
@@ -55,45 +59,57 @@ fn one(alloc: Global, text: Text) -> Result<List<Text>, AllocError>
 }
 
 // The address of a service.
-fn address(alloc: Global, service: &Element) -> Result<List<Text>, AllocError>
-    ensures ok { IfOk result (λ made. made ≡ address service.now) }
+fn service_address(alloc: Global, service: &Element) -> Result<List<Text>, AllocError>
+    ensures ok { IfOk result (λ made. made ≡ service_address service.now) }
 {
     match value_of(Key::Uri, service.attrs()) {
-        Some(uri) => one(alloc, Text::from(alloc, uri)?),
+        Some(uri) => list_of_one(alloc, Text::from(alloc, uri)?),
         None => Ok(List::empty(alloc)),
     }
 }
 
 // The address of the service at the end of a path of one step from the root.
-fn address_at(alloc: Global, root: &Element, way: &[usize]) -> Result<List<Text>, AllocError>
-    ensures ok { IfOk result (λ made. made ≡ address_at root.now way.now) }
+fn service_address_at(
+    alloc: Global,
+    root: &Element,
+    way: &[usize],
+) -> Result<List<Text>, AllocError>
+    ensures ok { IfOk result (λ made. made ≡ service_address_at root.now way.now) }
 {
     let [number] = way else {
         return Ok(List::empty(alloc));
     };
     match root.child_element(*number) {
-        Some(service) => address(alloc, service),
+        Some(service) => service_address(alloc, service),
         None => Ok(List::empty(alloc)),
     }
 }
 
 // The addresses of the services that the replacement of the element at this path removes.
-fn addresses_at(alloc: Global, root: &Element, way: &[usize]) -> Result<List<Text>, AllocError>
-    ensures ok { IfOk result (λ made. made ≡ addresses_at root.now way.now) }
+fn replaced_addresses(
+    alloc: Global,
+    root: &Element,
+    way: &[usize],
+) -> Result<List<Text>, AllocError>
+    ensures ok { IfOk result (λ made. made ≡ replaced_addresses root.now way.now) }
 {
     match way {
         [] => service_addresses(alloc, root),
-        _ => address_at(alloc, root, way),
+        _ => service_address_at(alloc, root, way),
     }
 }
 
 // The addresses of the services that an element put at this path adds.
-fn put_at(alloc: Global, way: &[usize], element: &Element) -> Result<List<Text>, AllocError>
-    ensures ok { IfOk result (λ made. made ≡ put_at way.now element.now) }
+fn addresses_put_at(
+    alloc: Global,
+    way: &[usize],
+    element: &Element,
+) -> Result<List<Text>, AllocError>
+    ensures ok { IfOk result (λ made. made ≡ addresses_put_at way.now element.now) }
 {
     match way {
         [] => service_addresses(alloc, element),
-        [_] => address(alloc, element),
+        [_] => service_address(alloc, element),
         _ => Ok(List::empty(alloc)),
     }
 }
@@ -103,55 +119,55 @@ fn added_address(alloc: Global, way: &[usize], element: &Element) -> Result<List
     ensures ok { IfOk result (λ made. made ≡ added_address way.now element.now) }
 {
     match way {
-        [] => address(alloc, element),
+        [] => service_address(alloc, element),
         _ => Ok(List::empty(alloc)),
     }
 }
 
 // The value, if it is written at a service.
-fn written_at(alloc: Global, way: &[usize], value: &Text) -> Result<List<Text>, AllocError>
-    ensures ok { IfOk result (λ made. made ≡ written_at way.now value.now) }
+fn address_set_at(alloc: Global, way: &[usize], value: &Text) -> Result<List<Text>, AllocError>
+    ensures ok { IfOk result (λ made. made ≡ address_set_at way.now value.now) }
 {
     match way {
-        [_] => one(alloc, value.copy(alloc)?),
+        [_] => list_of_one(alloc, value.copy(alloc)?),
         _ => Ok(List::empty(alloc)),
     }
 }
 
 // Whether it is the local name of the attribute with a service's address.
-fn is_uri_word(local: &LocalName) -> bool
-    ensures exact { result ≡ bytes_eq local.now (word keys.Uri) }
+fn is_uri_local_name(local: &LocalName) -> bool
+    ensures exact { result ≡ bytes_eq local.now (attribute_name keys.Uri) }
 {
-    local.is(Key::Uri.word())
+    local.is(Key::Uri.attribute_name())
 }
 
 // Whether it is the name of the attribute with a service's address.
-fn is_uri(name: &Name) -> bool
-    ensures exact { result ≡ is_uri name.now }
+fn is_uri_name(name: &Name) -> bool
+    ensures exact { result ≡ is_uri_name name.now }
 {
-    name.prefix.is("") && is_uri_word(&name.local)
+    name.prefix.is("") && is_uri_local_name(&name.local)
 }
 
 // ---- of an edit
 
 // The addresses that an edit removes from a document of services.
-fn services_leave(
+fn removed_service_addresses(
     alloc: Global,
     before: &Element,
     change: &Change,
 ) -> Result<List<Text>, AllocError>
-    ensures ok { IfOk result (λ made. made ≡ services_leave before.now change.now) }
+    ensures ok { IfOk result (λ made. made ≡ removed_service_addresses before.now change.now) }
 {
     match change {
         Change::CreateDocument { .. } => Ok(List::empty(alloc)),
         Change::Insert { .. } => Ok(List::empty(alloc)),
-        Change::Replace { at, .. } => addresses_at(alloc, before, at.numbers()),
-        Change::Remove { at } => address_at(alloc, before, at.numbers()),
+        Change::Replace { at, .. } => replaced_addresses(alloc, before, at.numbers()),
+        Change::Remove { at } => service_address_at(alloc, before, at.numbers()),
         Change::SetAttr { at, name, .. } => {
-            if !is_uri(name) {
+            if !is_uri_name(name) {
                 return Ok(List::empty(alloc));
             }
-            address_at(alloc, before, at.numbers())
+            service_address_at(alloc, before, at.numbers())
         }
         Change::DropAttr { .. } => Ok(List::empty(alloc)),
         Change::RemoveDocument => Ok(List::empty(alloc)),
@@ -159,8 +175,8 @@ fn services_leave(
 }
 
 // The addresses that an edit adds to a document of services.
-fn services_enter(alloc: Global, change: &Change) -> Result<List<Text>, AllocError>
-    ensures ok { IfOk result (λ made. made ≡ services_enter change.now) }
+fn added_service_addresses(alloc: Global, change: &Change) -> Result<List<Text>, AllocError>
+    ensures ok { IfOk result (λ made. made ≡ added_service_addresses change.now) }
 {
     match change {
         Change::CreateDocument { .. } => Ok(List::empty(alloc)),
@@ -169,13 +185,13 @@ fn services_enter(alloc: Global, change: &Change) -> Result<List<Text>, AllocErr
             element,
             ..
         } => added_address(alloc, parent.numbers(), element),
-        Change::Replace { at, element } => put_at(alloc, at.numbers(), element),
+        Change::Replace { at, element } => addresses_put_at(alloc, at.numbers(), element),
         Change::Remove { .. } => Ok(List::empty(alloc)),
         Change::SetAttr { at, name, value } => {
-            if !is_uri(name) {
+            if !is_uri_name(name) {
                 return Ok(List::empty(alloc));
             }
-            written_at(alloc, at.numbers(), value)
+            address_set_at(alloc, at.numbers(), value)
         }
         Change::DropAttr { .. } => Ok(List::empty(alloc)),
         Change::RemoveDocument => Ok(List::empty(alloc)),
@@ -190,10 +206,10 @@ pub(crate) fn removed_addresses(
     before: &Element,
     change: &Change,
 ) -> Result<List<Text>, AllocError>
-    ensures ok { IfOk result (λ made. made ≡ leave_in auid before.now change.now) }
+    ensures ok { IfOk result (λ made. made ≡ removed_addresses_of auid before.now change.now) }
 {
     match auid {
-        Auid::RlsServices => services_leave(alloc, before, change),
+        Auid::RlsServices => removed_service_addresses(alloc, before, change),
         Auid::ResourceLists => Ok(List::empty(alloc)),
         Auid::XcapCaps => Ok(List::empty(alloc)),
     }
@@ -205,18 +221,18 @@ pub(crate) fn added_addresses(
     auid: Auid,
     change: &Change,
 ) -> Result<List<Text>, AllocError>
-    ensures ok { IfOk result (λ made. made ≡ enter_in auid change.now) }
+    ensures ok { IfOk result (λ made. made ≡ added_addresses_of auid change.now) }
 {
     match auid {
-        Auid::RlsServices => services_enter(alloc, change),
+        Auid::RlsServices => added_service_addresses(alloc, change),
         Auid::ResourceLists => Ok(List::empty(alloc)),
         Auid::XcapCaps => Ok(List::empty(alloc)),
     }
 }
 
 // The first number of a path; 0 of the empty one.
-fn first(path: &Path) -> usize
-    ensures exact { result ≡ first path.now }
+fn first_path_number(path: &Path) -> usize
+    ensures exact { result ≡ first_path_number path.now }
 {
     match path.numbers() {
         [] => 0,
@@ -225,15 +241,15 @@ fn first(path: &Path) -> usize
 }
 
 /// The number of the first service that an edit adds, where it adds one.
-pub(crate) fn first_number(change: &Change) -> usize
-    ensures exact { result ≡ first_number change.now }
+pub(crate) fn first_added_number(change: &Change) -> usize
+    ensures exact { result ≡ first_added_number change.now }
 {
     match change {
         Change::CreateDocument { .. } => 0,
         Change::Insert { gap, .. } => *gap,
-        Change::Replace { at, .. } => first(at),
+        Change::Replace { at, .. } => first_path_number(at),
         Change::Remove { .. } => 0,
-        Change::SetAttr { at, .. } => first(at),
+        Change::SetAttr { at, .. } => first_path_number(at),
         Change::DropAttr { .. } => 0,
         Change::RemoveDocument => 0,
     }

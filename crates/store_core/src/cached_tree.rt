@@ -1,9 +1,9 @@
 //! The tree of a stored document, with its print where that was made (RFC 4825, section 8.3).
 ghost use Rattle.std.specs.Prelude.{◌≡◌, IfOk, OnOk, encode_utf8_all, false, true};
-ghost use Rattle.edit_ops.specs.Changes.{Fits, edited};
+ghost use Rattle.edit_ops.specs.Changes.{FitsTree, edited};
 ghost use Rattle.edit_ops.specs.StagedChanges.{IsStaged};
 ghost use Rattle.xml_tree.specs.Print.{document_print};
-ghost use Rattle.store_core.specs.TreeChanges.{NeedsUnshared, IsStagedIn};
+ghost use Rattle.store_core.specs.TreeChanges.{IsUnsharedIfInPlace, IsStagedTreeFor};
 
 use crate::NoMemory;
 use crate::printed_tree::PrintedTree;
@@ -26,18 +26,18 @@ pub struct CachedTree {
 
 impl Model for CachedTree {
     ghost use Rattle.std.specs.Coded.{codes};
-    ghost use Rattle.xml_tree.specs.inner.Codes.{tree_code};
-    ghost use Rattle.store_core.specs.Trees.{HeldTree};
+    ghost use Rattle.xml_tree.specs.inner.TreeCodes.{tree_code};
+    ghost use Rattle.store_core.specs.StoredTrees.{StoredTree};
     ghost use Rattle.store_core.specs.inner.Prints.{IsPrintOf};
-    ghost use Rattle.store_core.specs.inner.Roots.{is_own, root_in};
+    ghost use Rattle.store_core.specs.inner.Roots.{is_unshared, root_view};
 
-    ghost Value = { HeldTree };
+    ghost Value = { StoredTree };
 
     ghost coded = { Prim.hlevel (codes, tree_code) };
 
-    ghost view = { λ t. record { root = root_in t.root; own = is_own t.root } };
+    ghost view = { λ t. record { root = root_view t.root; own = is_unshared t.root } };
 
-    ghost invariant = { λ t. IsPrintOf (root_in t.root) t.print };
+    ghost invariant = { λ t. IsPrintOf (root_view t.root) t.print };
 }
 
 impl CachedTree {
@@ -73,10 +73,10 @@ impl CachedTree {
 
     /// Makes a change whose memory is reserved. What replaces the whole tree comes with its print,
     /// else the print is discarded. Does not allocate.
-    pub(crate) fn make(&mut self, change: &Change, staged: StagedTree)
-        requires fits { Fits self.old.root change.now }
-        requires change_staged { IsStagedIn self.old.root change.now staged }
-        requires tree_owned { NeedsUnshared staged self.old.own }
+    pub(crate) fn apply_staged_change(&mut self, change: &Change, staged: StagedTree)
+        requires fits { FitsTree self.old.root change.now }
+        requires change_staged { IsStagedTreeFor self.old.root change.now staged }
+        requires tree_owned { IsUnsharedIfInPlace staged self.old.own }
         ensures makes_change { self.new.root ≡ edited self.old.root change.now }
     {
         match staged {
@@ -87,7 +87,7 @@ impl CachedTree {
 
     // Makes a change in place, and discards the print.
     fn make_in_place(&mut self, change: &Change, staged: Staged)
-        requires fits { Fits self.old.root change.now }
+        requires fits { FitsTree self.old.root change.now }
         requires change_staged { IsStaged self.old.root change.now staged }
         requires tree_owned { self.old.own ≡ true }
         ensures makes_change { self.new.root ≡ edited self.old.root change.now }

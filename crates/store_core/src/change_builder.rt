@@ -1,14 +1,14 @@
 //! Builds prepared changes: the record of each change, and the step that the store makes.
 ghost use Rattle.std.specs.Prelude.{◌≡◌, [], false, IfOk, min};
-ghost use Rattle.edit_ops.specs.Changes.{Fits};
-ghost use Rattle.edit_ops.specs.Lengths.{element_len};
+ghost use Rattle.edit_ops.specs.Changes.{FitsTree};
+ghost use Rattle.edit_ops.specs.PrintedLengths.{element_len};
 ghost use Rattle.edit_ops.specs.declared.change.Change.TheVariants as changes;
-ghost use Rattle.edit_ops.specs.InsertedElements.{BringsElement, inserted_part};
+ghost use Rattle.edit_ops.specs.InsertedElements.{InsertsElement, inserted_element};
 ghost use Rattle.edit_ops.specs.Notes.{note_of};
-ghost use Rattle.store_core.specs.TreeChanges.{IsStagedIn};
-ghost use Rattle.store_core.specs.StoreViews.{entry_of};
+ghost use Rattle.store_core.specs.TreeChanges.{IsStagedTreeFor};
+ghost use Rattle.store_core.specs.StoreViews.{new_entry};
 ghost use Rattle.store_core.specs.declared.step.Step.TheVariants as steps;
-ghost use Rattle.store_core.specs.inner.ChangePlans.{IsNoted, IsStepOfEdit};
+ghost use Rattle.store_core.specs.inner.ChangePlans.{IsPreparedEdit, IsEditStep};
 ghost use Rattle.store_core.specs.inner.Prints.{IsInsertedPrint, IsPrintOf};
 ghost use Rattle.usage_docs.specs.Services.{document_len};
 
@@ -17,7 +17,7 @@ use crate::entry::Entry;
 use crate::prepared_change::Prepared;
 use crate::printed_tree::PrintedTree;
 use crate::put_lengths::Put;
-use crate::root_tests::is_within;
+use crate::root_changes::edits_within_root;
 use crate::staged_tree::StagedTree;
 use crate::step::Step;
 use doc_names::DocId;
@@ -41,7 +41,7 @@ pub(crate) struct Outline {
 }
 
 // The step that creates a document under this name. It shares its tree with the change record.
-fn make_step(
+fn creation_step(
     alloc: Global,
     doc: &DocId,
     number: u64,
@@ -49,11 +49,11 @@ fn make_step(
     print: Option<Bytes>,
     len: usize,
 ) -> Result<Step, NoMemory>
-    requires brings_part { BringsElement note.now.change }
-    requires print_of_part { IsPrintOf (inserted_part note.now.change) print }
-    requires length_exact { len ≡ document_len (inserted_part note.now.change) }
+    requires brings_part { InsertsElement note.now.change }
+    requires print_of_part { IsPrintOf (inserted_element note.now.change) print }
+    requires length_exact { len ≡ document_len (inserted_element note.now.change) }
     ensures makes_document { IfOk result
-        (λ step. step ≡ steps.Make doc.now (entry_of number (inserted_part note.now.change))) }
+        (λ step. step ≡ steps.Make doc.now (new_entry number (inserted_element note.now.change))) }
 {
     let noted = RecordedTree::of(note)?;
     let tree = PrintedTree::of(noted, print);
@@ -63,7 +63,7 @@ fn make_step(
 }
 
 // The change record of a creation, and its step.
-fn note_creation(
+fn record_creation(
     alloc: Global,
     doc: &DocId,
     number: u64,
@@ -82,10 +82,10 @@ fn note_creation(
           fresh = false;
         }) }
     ensures makes_document { IfOk result
-        (λ made. made.1 ≡ steps.Make doc.now (entry_of number root)) }
+        (λ made. made.1 ≡ steps.Make doc.now (new_entry number root)) }
 {
     let note = EditNote::of_document(alloc, 0, number, Change::CreateDocument { root })?;
-    let step = make_step(alloc, doc, number, &note, print, len)?;
+    let step = creation_step(alloc, doc, number, &note, print, len)?;
     Ok((note, step))
 }
 
@@ -93,7 +93,7 @@ fn note_creation(
 ///
 /// # Errors
 /// `NoMemory` when out of memory.
-pub(crate) fn creation(
+pub(crate) fn prepare_creation(
     alloc: Global,
     doc: DocId,
     root: Element,
@@ -110,7 +110,7 @@ pub(crate) fn creation(
         change = changes.CreateDocument root;
         fresh = false;
       };
-      step = steps.Make doc (entry_of outline.number root);
+      step = steps.Make doc (new_entry outline.number root);
       leaves = outline.leaves;
       enters = outline.enters;
       total = outline.total;
@@ -124,7 +124,7 @@ pub(crate) fn creation(
         leaves,
         enters,
     } = outline;
-    let (note, step) = note_creation(alloc, &doc, number, root, put.print, len)?;
+    let (note, step) = record_creation(alloc, &doc, number, root, put.print, len)?;
     Ok(Prepared {
         doc,
         note,
@@ -139,7 +139,7 @@ pub(crate) fn creation(
 ///
 /// # Errors
 /// `NoMemory` when out of memory.
-pub(crate) fn removal(
+pub(crate) fn prepare_removal(
     alloc: Global,
     doc: DocId,
     tag: u64,
@@ -181,12 +181,12 @@ fn stage_tree(
     note: &EditNote,
     print: Option<Bytes>,
 ) -> Result<StagedTree, NoMemory>
-    requires fits { Fits root.now note.now.change }
+    requires fits { FitsTree root.now note.now.change }
     requires print_of_part { IsInsertedPrint note.now.change print }
-    ensures stages_change { IfOk result (λ made. IsStagedIn root.now note.now.change made) }
+    ensures stages_change { IfOk result (λ made. IsStagedTreeFor root.now note.now.change made) }
 {
     let change = note.change();
-    if is_within(change) {
+    if edits_within_root(change) {
         let staged = stage(alloc, root, change)?;
         return Ok(StagedTree::InPlace(staged));
     }
@@ -203,9 +203,9 @@ fn edit_step(
     print: Option<Bytes>,
     len: usize,
 ) -> Result<Step, NoMemory>
-    requires fits { Fits root.now note.now.change }
+    requires fits { FitsTree root.now note.now.change }
     requires print_of_part { IsInsertedPrint note.now.change print }
-    ensures stages_change { IfOk result (λ step. IsStepOfEdit root.now note.now len step) }
+    ensures stages_change { IfOk result (λ step. IsEditStep root.now note.now len step) }
 {
     let staged = stage_tree(alloc, root, note, print)?;
     let kept = note.copy()?;
@@ -213,7 +213,7 @@ fn edit_step(
 }
 
 // The change record of an edit of a document, and its step.
-fn note_edit(
+fn record_edit(
     alloc: Global,
     entry: &Entry,
     number: u64,
@@ -221,12 +221,12 @@ fn note_edit(
     put: Put,
     len: usize,
 ) -> Result<(EditNote, Step), NoMemory>
-    requires fits { Fits entry.now.tree.root change }
+    requires fits { FitsTree entry.now.tree.root change }
     requires length_of_part { put.len ≡ min (element_len change) usize.MAX }
     requires print_of_part { IsInsertedPrint change put.print }
     ensures change_record { IfOk result
         (λ made. made.0 ≡ note_of entry.now.tag number entry.now.tree.root change) }
-    ensures staged_edit { IfOk result (λ made. IsStepOfEdit entry.now.tree.root made.0 len made.1) }
+    ensures staged_edit { IfOk result (λ made. IsEditStep entry.now.tree.root made.0 len made.1) }
 {
     let tree = entry.tree.root();
     let note = EditNote::of(alloc, entry.tag, number, tree, change, put.len)?;
@@ -238,17 +238,17 @@ fn note_edit(
 ///
 /// # Errors
 /// `NoMemory` when out of memory.
-pub(crate) fn edit(
+pub(crate) fn prepare_edit(
     alloc: Global,
     doc: DocId,
     entry: &Entry,
     change: Change,
     outline: Outline,
 ) -> Result<Prepared, NoMemory>
-    requires fits { Fits entry.now.tree.root change }
+    requires fits { FitsTree entry.now.tree.root change }
     requires length_of_part { outline.put.len ≡ min (element_len change) usize.MAX }
     requires print_of_part { IsInsertedPrint change outline.put.print }
-    ensures prepared_edit { IfOk result (λ p. IsNoted doc entry.now change outline p) }
+    ensures prepared_edit { IfOk result (λ p. IsPreparedEdit doc entry.now change outline p) }
 {
     let Outline {
         number,
@@ -258,7 +258,7 @@ pub(crate) fn edit(
         leaves,
         enters,
     } = outline;
-    let (note, step) = note_edit(alloc, entry, number, change, put, len)?;
+    let (note, step) = record_edit(alloc, entry, number, change, put, len)?;
     Ok(Prepared {
         doc,
         note,

@@ -1,13 +1,13 @@
 //! Commits prepared changes.
 ghost use Rattle.std.specs.Prelude.{◌≡◌, IfOk, OnErr};
-ghost use Rattle.store_core.specs.Queries.{Asks};
-ghost use Rattle.store_core.specs.DocumentChanges.{change_result, content_after};
-ghost use Rattle.store_core.specs.PreparedChanges.{IsReady, Steps};
+ghost use Rattle.store_core.specs.ChangePreconditions.{MayRequest};
+ghost use Rattle.store_core.specs.DocumentChanges.{change_result, contents_after};
+ghost use Rattle.store_core.specs.PreparedChanges.{IsReady, IsChangeOutcome};
 
 use crate::NoMemory;
 use crate::prepared_change::Prepared;
 use crate::refusal::StoreRefusal;
-use crate::registry::{enter, leave};
+use crate::registry::{register_addresses, release_addresses};
 use crate::store::Store;
 use doc_names::DocId;
 use edit_ops::{Change, Edit, EditNote};
@@ -18,7 +18,7 @@ impl Store {
     pub fn commit(&mut self, prepared: Prepared) -> Edit
         requires { IsReady self.old prepared }
         ensures holds_change { self.new.content
-            ≡ content_after self.old.content prepared.doc prepared.note.change }
+            ≡ contents_after self.old.content prepared.doc prepared.note.change }
         ensures prepared_edit { result ≡ record { doc = prepared.doc; note = prepared.note } }
     {
         let Prepared {
@@ -29,10 +29,10 @@ impl Store {
             enters,
             total,
         } = prepared;
-        leave(&mut self.services, leaves.as_slice());
+        release_addresses(&mut self.services, leaves.as_slice());
         let number = note.next();
-        let created = step.take(&mut self.documents, &doc, number);
-        enter(&mut self.services, enters.into_vec(), created);
+        let created = step.apply_to(&mut self.documents, &doc, number);
+        register_addresses(&mut self.services, enters.into_vec(), created);
         self.last = number;
         self.total = total;
         Edit { doc, note }
@@ -49,9 +49,9 @@ impl Store {
         doc: DocId,
         change: Change,
     ) -> Result<Result<EditNote, StoreRefusal>, NoMemory>
-        requires { Asks self.old.content doc change }
+        requires { MayRequest self.old.content doc change }
         ensures changed_or_refused { IfOk result
-            (λ r. Steps (change_result self.old.content doc change) r self.old.content
+            (λ r. IsChangeOutcome (change_result self.old.content doc change) r self.old.content
             self.new.content) }
         ensures no_memory_unchanged { OnErr result (self.new.content ≡ self.old.content) }
     {

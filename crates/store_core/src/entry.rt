@@ -1,11 +1,11 @@
 //! The entry of a document in the store, with the retained records of its changes (RFC 5874,
 //! section 3).
 ghost use Rattle.std.specs.Prelude.{◌≡◌, IfOk, OnOk, true};
-ghost use Rattle.store_core.specs.StoreViews.{entry_of};
-ghost use Rattle.edit_ops.specs.Changes.{Fits};
+ghost use Rattle.store_core.specs.StoreViews.{new_entry};
+ghost use Rattle.edit_ops.specs.Changes.{FitsTree};
 ghost use Rattle.usage_docs.specs.Services.{document_len};
-ghost use Rattle.store_core.specs.TreeChanges.{NeedsUnshared, IsStagedIn};
-ghost use Rattle.store_core.specs.inner.StoreMemory.{IsRenewed, as_unshared};
+ghost use Rattle.store_core.specs.TreeChanges.{IsUnsharedIfInPlace, IsStagedTreeFor};
+ghost use Rattle.store_core.specs.inner.StoreMemory.{IsUpdatedEntry, as_unshared};
 
 use crate::cached_tree::CachedTree;
 use crate::printed_tree::PrintedTree;
@@ -35,7 +35,7 @@ impl Entry {
         len: usize,
     ) -> Result<Entry, AllocError>
         requires { len ≡ document_len tree }
-        ensures ok { IfOk result (λ made. made ≡ entry_of number tree) }
+        ensures ok { IfOk result (λ made. made ≡ new_entry number tree) }
     {
         let notes = RetainedRecords::new(alloc)?;
         Ok(Entry {
@@ -57,19 +57,19 @@ pub(crate) fn update_entry(
     note: EditNote,
     len: usize,
 )
-    requires fits { Fits entry.old.tree.root note.change }
-    requires change_staged { IsStagedIn entry.old.tree.root note.change staged }
-    requires tree_owned { NeedsUnshared staged entry.old.tree.own }
-    ensures renewed_entry { IsRenewed entry.old number note len entry.new }
+    requires fits { FitsTree entry.old.tree.root note.change }
+    requires change_staged { IsStagedTreeFor entry.old.tree.root note.change staged }
+    requires tree_owned { IsUnsharedIfInPlace staged entry.old.tree.own }
+    ensures renewed_entry { IsUpdatedEntry entry.old number note len entry.new }
 {
-    entry.tree.make(note.change(), staged);
+    entry.tree.apply_staged_change(note.change(), staged);
     entry.len = len;
     entry.tag = number;
     entry.notes.keep(note);
 }
 
 /// Makes the tree of a document unshared; the tree is unchanged.
-pub(crate) fn make_tree_unique(alloc: Global, entry: &mut Entry) -> Result<(), AllocError>
+pub(crate) fn unshare_tree(alloc: Global, entry: &mut Entry) -> Result<(), AllocError>
     ensures contents_unchanged { as_unshared entry.new ≡ as_unshared entry.old }
     ensures tree_unshared { OnOk result (entry.new.tree.own ≡ true) }
 {

@@ -4,8 +4,9 @@ ghost use Rattle.std.specs.Str.{bytes_eq};
 ghost use Rattle.std.specs.Option.{option_map};
 ghost use Rattle.xml_names.specs.declared.limits.TheConstants.{MAX_LEVELS};
 ghost use Rattle.xml_tree.specs.Tree.{Tree, height};
-ghost use Rattle.store_core.specs.Indexes.{AreIndexTrees, index, indexed_by, indexed_in};
-ghost use Rattle.store_core.specs.inner.ServiceListing.{with_entries, index_entries, pairs_in};
+ghost use Rattle.store_core.specs.Indexes.{AreIndexTrees, index, entry_if_listed, home_entry};
+ghost use Rattle.store_core.specs.inner.ServiceListing.{with_entries, index_entries};
+ghost use Rattle.store_core.specs.inner.ServiceListing.{borrowed_pairs};
 
 use crate::step::Documents;
 use crate::{NoMemory, Store};
@@ -18,7 +19,7 @@ use xml_tree::Element;
 // The user who owns the home.
 fn user_of(home: &Home) -> Option<&Text>
     ensures indexed_user { (t : Tree)
-        → option_map (λ user. (user.now, t)) result ≡ indexed_in home.now t }
+        → option_map (λ user. (user.now, t)) result ≡ home_entry home.now t }
 {
     match home {
         Home::Global => None,
@@ -31,7 +32,7 @@ fn user_of(home: &Home) -> Option<&Text>
 fn user_of_index(doc: &DocId) -> Option<&Text>
     ensures indexed_user { (t : Tree)
         → option_map (λ user. (user.now, t)) result
-        ≡ (if bytes_eq doc.now.name index then indexed_in doc.now.home t else None) }
+        ≡ (if bytes_eq doc.now.name index then home_entry doc.now.home t else None) }
 {
     if !doc.name.is("index") {
         return None;
@@ -43,7 +44,7 @@ fn user_of_index(doc: &DocId) -> Option<&Text>
 fn listed_user(doc: &DocId) -> Option<&Text>
     ensures indexed_user { (t : Tree)
         → option_map (λ user. (user.now, t)) result
-        ≡ indexed_by doc.now.auid (bytes_eq doc.now.name index) doc.now.home t }
+        ≡ entry_if_listed doc.now.auid (bytes_eq doc.now.name index) doc.now.home t }
 {
     match doc.auid {
         Auid::ResourceLists => None,
@@ -58,7 +59,8 @@ fn trees_by_user<'a>(
     documents: &'a Documents,
 ) -> Result<BTreeMap<&'a Text, &'a Element>, AllocError>
     ensures listed_trees { IfOk result
-        (λ made. pairs_in made.entries ≡ with_entries [] (index_entries documents.now.entries)) }
+        (λ made. borrowed_pairs made.entries
+        ≡ with_entries [] (index_entries documents.now.entries)) }
 {
     let mut made = BTreeMap::new(alloc);
     for (doc, entry) in documents.iter() {

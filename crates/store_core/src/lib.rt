@@ -1,11 +1,11 @@
 //! The document store: each document with its etag and the records of its last changes. A change
 //! is prepared (`prepare`, which takes all memory and may refuse it) and then committed (`commit`,
 //! which can't fail). Upward: a store's contents represent a valid state of the abstract machine
-//! (`Represents`, `IsValidState`), each change makes the next state (`after`, `content_after`,
-//! `change_result`), and `since` returns the records since an etag. The standards are RFC 4825,
-//! sections 7 and 8, RFC 4826 and RFC 5874; the limits are this server's own.
-//! Versions are listed newest first. Whether a tree is shared is in the store's `Room`, not in its
-//! contents: `commit` needs an unshared tree for an edit in place.
+//! (`Represents`, `IsValidState`), each change makes the next state (`state_after`,
+//! `contents_after`, `change_result`), and `since` returns the records since an etag. The standards
+//! are RFC 4825, sections 7 and 8, RFC 4826 and RFC 5874; the limits are this server's own.
+//! Versions are listed newest first. Whether a tree is shared is in the store's `SpareCapacity`,
+//! not in its contents: `commit` needs an unshared tree for an edit in place.
 #![tactic(auto)]
 
 mod addresses;
@@ -24,7 +24,7 @@ mod put_lengths;
 mod refusal;
 mod registry;
 mod retained_records;
-mod root_tests;
+mod root_changes;
 mod shared_root;
 mod since;
 mod staged_tree;

@@ -2,40 +2,41 @@
 ghost use Rattle.std.specs.Prelude.{◌≡◌, ℕ, ◌≤◌, ◌+◌, [], ◌∷◌, Err, IfErr, IfOk, IfSome, IsSome};
 ghost use Rattle.std.specs.Prelude.{IsSomeAnd, None, Ok, OnOk, List, Some, false, length, max, min};
 ghost use Rattle.std.specs.Prelude.{option_map, true};
-ghost use Rattle.store_core.specs.inner.ChangePlans.{refused_for, IsHeldAs, IsNewOutline};
-ghost use Rattle.store_core.specs.inner.ChangePlans.{IsOutline};
-ghost use Rattle.store_core.specs.inner.ChangePlans.{Plans};
+ghost use Rattle.store_core.specs.inner.ChangePlans.{refusal_from_checks, IsStoredAs};
+ghost use Rattle.store_core.specs.inner.ChangePlans.{IsCreationOutline};
+ghost use Rattle.store_core.specs.inner.ChangePlans.{IsEditOutline};
+ghost use Rattle.store_core.specs.inner.ChangePlans.{IsPlanResult};
 ghost use Rattle.xml_tree.specs.Tree.{Tree};
 ghost use Rattle.usage_docs.specs.Services.{document_len};
 ghost use Rattle.usage_docs.specs.declared.schema_table.Key.TheVariants as keys;
 ghost use Rattle.edit_ops.specs.declared.change.Change.TheVariants as changes;
 ghost use Rattle.store_core.specs.declared.refusal.StoreRefusal.TheVariants as refusals;
-ghost use Rattle.store_core.specs.Queries.{Asks};
-ghost use Rattle.store_core.specs.DocumentChanges.{Edits, act_of, refusal_of_number};
+ghost use Rattle.store_core.specs.ChangePreconditions.{MayRequest};
+ghost use Rattle.store_core.specs.DocumentChanges.{Edits, change_kind, refusal_of_number};
 ghost use Rattle.store_core.specs.DocumentChanges.{refusal_of_tree};
-ghost use Rattle.store_core.specs.DocumentChanges.{change_result, content_after, document_in};
-ghost use Rattle.store_core.specs.DocumentChanges.{stored_name, other_lengths};
+ghost use Rattle.store_core.specs.DocumentChanges.{change_result, contents_after, find_document};
+ghost use Rattle.store_core.specs.DocumentChanges.{stored_id, total_len_of_others};
 ghost use Rattle.doc_names.specs.Usages.{usage_of};
 ghost use Rattle.store_core.specs.Contents.{StoredDocument};
-ghost use Rattle.store_core.specs.ValidStates.{IsSoundFor, addresses_in};
-ghost use Rattle.store_core.specs.inner.Addresses.{AreExchanged};
-ghost use Rattle.store_core.specs.TreeChanges.{is_within};
+ghost use Rattle.store_core.specs.ValidStates.{IsSoundDocumentFor, document_addresses};
+ghost use Rattle.store_core.specs.inner.Addresses.{AreReplacedAt};
+ghost use Rattle.store_core.specs.TreeChanges.{edits_within_root};
 ghost use Rattle.store_core.specs.inner.UnsharedTrees.{IsUnshared};
-ghost use Rattle.edit_ops.specs.Changes.{Fits, edited};
-ghost use Rattle.edit_ops.specs.Lengths.{element_len};
-ghost use Rattle.store_core.specs.PreparedChanges.{IsReady, total_of};
+ghost use Rattle.edit_ops.specs.Changes.{FitsTree, edited};
+ghost use Rattle.edit_ops.specs.PrintedLengths.{element_len};
+ghost use Rattle.store_core.specs.PreparedChanges.{IsReady, total_len};
 
 use crate::NoMemory;
-use crate::addresses::{added_addresses, addresses, first_number, removed_addresses};
-use crate::change_builder::{Outline, creation, edit, removal};
+use crate::addresses::{added_addresses, addresses, first_added_number, removed_addresses};
+use crate::change_builder::{Outline, prepare_creation, prepare_edit, prepare_removal};
 use crate::entry::Entry;
 use crate::limits::{MAX_BYTES_TOGETHER, MAX_DOCUMENT_BYTES, MAX_DOCUMENTS};
 use crate::prepared_change::Prepared;
-use crate::put_lengths::{HEAD_LEN, document_len, put_by, put_root};
+use crate::put_lengths::{HEAD_LEN, document_len, measure_put, measure_root};
 use crate::refusal::StoreRefusal;
 use crate::registry::first_conflict;
-use crate::root_tests::is_within;
-use crate::step::{find, unshare};
+use crate::root_changes::edits_within_root;
+use crate::step::{find_entry, unshare};
 use crate::store::Store;
 use doc_names::DocId;
 use edit_ops::{Change, printed_len_after};
@@ -45,8 +46,8 @@ use xml_tree::{Element, Path};
 
 // The length of a document of `len` bytes after a change that puts an element of `put` bytes, at
 // most the greatest number.
-fn len_after(root: &Element, len: usize, change: &Change, put: usize) -> usize
-    requires fits { Fits root.now change.now }
+fn document_len_after(root: &Element, len: usize, change: &Change, put: usize) -> usize
+    requires fits { FitsTree root.now change.now }
     requires length_exact { len ≡ document_len root.now }
     requires length_of_part { put ≡ min (element_len change.now) usize.MAX }
     ensures exact { result ≡ min (document_len (edited root.now change.now)) usize.MAX }
@@ -69,7 +70,7 @@ fn clash_at(place: usize) -> Clash
 
 // The number of the service at an index among the added ones, of which the first has this number:
 // if several are added, they are all services of the document, and the first has 0.
-fn number_at(first: usize, place: Option<usize>) -> Option<usize>
+fn service_number(first: usize, place: Option<usize>) -> Option<usize>
     ensures exact { result ≡ option_map (λ i. max first i) place }
 {
     match place {
@@ -79,9 +80,14 @@ fn number_at(first: usize, place: Option<usize>) -> Option<usize>
 }
 
 // The first reason against a tree, from what was found in it.
-fn refused_for(place: Option<usize>, len: usize, is_full: bool, others: u64) -> Option<StoreRefusal>
+fn refusal_from_checks(
+    place: Option<usize>,
+    len: usize,
+    is_full: bool,
+    others: u64,
+) -> Option<StoreRefusal>
     requires { others ≤ MAX_BYTES_TOGETHER }
-    ensures exact { result ≡ refused_for place len is_full others }
+    ensures exact { result ≡ refusal_from_checks place len is_full others }
 {
     if let Some(place) = place {
         return Some(StoreRefusal::ServiceTaken(clash_at(place)));
@@ -113,23 +119,23 @@ impl Store {
     // The first reason against the tree of a new document, by the tree's length and its service
     // addresses.
     fn refusal_of_new(&self, doc: &DocId, len: usize, uris: &[Text]) -> Option<StoreRefusal>
-        requires { document_in stored_name self.now.content.documents doc.now ≡ None }
+        requires { find_document stored_id self.now.content.documents doc.now ≡ None }
         ensures first_refusal { (t : Tree) → len ≡ min (document_len t) usize.MAX
-            → uris.now ≡ addresses_in doc.now.auid t
+            → uris.now ≡ document_addresses doc.now.auid t
             → result ≡ refusal_of_tree self.now.content doc.now true t }
     {
         let place = first_conflict(&self.services, uris, None);
         let is_full = self.documents.len() >= MAX_DOCUMENTS;
-        refused_for(place, len, is_full, self.total)
+        refusal_from_checks(place, len, is_full, self.total)
     }
 
     // The entry of a stored document.
     fn stored_entry(&self, doc: &DocId) -> &Entry
-        requires { IsSome (document_in stored_name self.now.content.documents doc.now) }
-        ensures entry_held { IsHeldAs self.now.content doc.now result.now }
-        ensures tree_is_sound { IsSoundFor (usage_of doc.now.auid) result.now.tree.root }
+        requires { IsSome (find_document stored_id self.now.content.documents doc.now) }
+        ensures entry_held { IsStoredAs self.now.content doc.now result.now }
+        ensures tree_is_sound { IsSoundDocumentFor (usage_of doc.now.auid) result.now.tree.root }
     {
-        match find(&self.documents, doc) {
+        match find_entry(&self.documents, doc) {
             Some(entry) => entry,
             None => unreachable!(),
         }
@@ -137,14 +143,14 @@ impl Store {
 
     // The number of bytes of all documents except this stored one.
     fn total_without(&self, doc: &DocId) -> u64
-        requires { IsSome (document_in stored_name self.now.content.documents doc.now) }
-        ensures exact { result ≡ other_lengths self.now.content doc.now }
+        requires { IsSome (find_document stored_id self.now.content.documents doc.now) }
+        ensures exact { result ≡ total_len_of_others self.now.content doc.now }
         ensures is_small { result ≤ MAX_BYTES_TOGETHER }
         ensures completes_total { IsSomeAnd
-            (document_in stored_name self.now.content.documents doc.now)
-            (λ h. result + document_len h.tree ≡ total_of self.now.content) }
+            (find_document stored_id self.now.content.documents doc.now)
+            (λ h. result + document_len h.tree ≡ total_len self.now.content) }
     {
-        let Some(entry) = find(&self.documents, doc) else {
+        let Some(entry) = find_entry(&self.documents, doc) else {
             unreachable!()
         };
         self.total - entry.len as u64
@@ -159,20 +165,20 @@ impl Store {
         first: usize,
         uris: &[Text],
     ) -> Option<StoreRefusal>
-        requires { IsSome (document_in stored_name self.now.content.documents doc.now) }
+        requires { IsSome (find_document stored_id self.now.content.documents doc.now) }
         ensures first_refusal { (h : StoredDocument) (t : Tree) (leaves : List (List ℕ))
-            → document_in stored_name self.now.content.documents doc.now ≡ Some h
+            → find_document stored_id self.now.content.documents doc.now ≡ Some h
             → len ≡ min (document_len t) usize.MAX
-            → AreExchanged first (addresses_in doc.now.auid h.tree) leaves uris.now
-            (addresses_in doc.now.auid t)
+            → AreReplacedAt first (document_addresses doc.now.auid h.tree) leaves uris.now
+            (document_addresses doc.now.auid t)
             → result ≡ refusal_of_tree self.now.content doc.now false t }
     {
-        let Some(entry) = find(&self.documents, doc) else {
+        let Some(entry) = find_entry(&self.documents, doc) else {
             unreachable!()
         };
         let place = first_conflict(&self.services, uris, Some(entry.created));
         let others = self.total - entry.len as u64;
-        refused_for(number_at(first, place), len, false, others)
+        refusal_from_checks(service_number(first, place), len, false, others)
     }
 
     // The outline of a new document with this tree, or the first reason against it.
@@ -181,15 +187,16 @@ impl Store {
         doc: &DocId,
         root: &Element,
     ) -> Result<Result<Outline, StoreRefusal>, NoMemory>
-        requires { Asks self.now.content doc.now (changes.CreateDocument root.now) }
+        requires { MayRequest self.now.content doc.now (changes.CreateDocument root.now) }
         ensures ok_outline { IfOk result
-            (λ r. IfOk r (λ o. IsNewOutline self.now.content doc.now root.now o)) }
+            (λ r. IfOk r (λ o. IsCreationOutline self.now.content doc.now root.now o)) }
         ensures err_refusal { IfOk result
-            (λ r. IfErr r (λ e. Plans self.now.content doc.now (changes.CreateDocument root.now)
+            (λ r.
+            IfErr r (λ e. IsPlanResult self.now.content doc.now (changes.CreateDocument root.now)
             (Err e))) }
     {
         let enters = addresses(self.alloc, doc.auid, root)?;
-        let put = put_root(self.alloc, root);
+        let put = measure_root(self.alloc, root);
         let len = document_len(put.len);
         if let Some(refusal) = self.refusal_of_new(doc, len, enters.as_slice()) {
             return Ok(Err(refusal));
@@ -216,13 +223,13 @@ impl Store {
         doc: DocId,
         root: Element,
     ) -> Result<Result<Prepared, StoreRefusal>, NoMemory>
-        requires { Asks self.now.content doc (changes.CreateDocument root) }
+        requires { MayRequest self.now.content doc (changes.CreateDocument root) }
         ensures plans_creation { IfOk result
-            (Plans self.now.content doc (changes.CreateDocument root)) }
+            (IsPlanResult self.now.content doc (changes.CreateDocument root)) }
     {
         match self.outline_creation(&doc, &root)? {
             Ok(outline) => {
-                let prepared = creation(self.alloc, doc, root, outline)?;
+                let prepared = prepare_creation(self.alloc, doc, root, outline)?;
                 Ok(Ok(prepared))
             }
             Err(refusal) => Ok(Err(refusal)),
@@ -236,21 +243,21 @@ impl Store {
         entry: &Entry,
         change: &Change,
     ) -> Result<Result<Outline, StoreRefusal>, NoMemory>
-        requires asks_change { Asks self.now.content doc.now change.now }
-        requires edits_document { act_of change.now ≡ Edits }
-        requires stored_there { IsHeldAs self.now.content doc.now entry.now }
-        requires is_sound { IsSoundFor (usage_of doc.now.auid) entry.now.tree.root }
+        requires asks_change { MayRequest self.now.content doc.now change.now }
+        requires edits_document { change_kind change.now ≡ Edits }
+        requires stored_there { IsStoredAs self.now.content doc.now entry.now }
+        requires is_sound { IsSoundDocumentFor (usage_of doc.now.auid) entry.now.tree.root }
         ensures ok_outline { IfOk result
-            (λ r. IfOk r (λ o. IsOutline self.now.content doc.now entry.now.tree.root change.now
+            (λ r. IfOk r (λ o. IsEditOutline self.now.content doc.now entry.now.tree.root change.now
             o)) }
         ensures err_refusal { IfOk result
-            (λ r. IfErr r (λ e. Plans self.now.content doc.now change.now (Err e))) }
+            (λ r. IfErr r (λ e. IsPlanResult self.now.content doc.now change.now (Err e))) }
     {
         let tree = entry.tree.root();
         let enters = added_addresses(self.alloc, doc.auid, change)?;
-        let put = put_by(self.alloc, change);
-        let len = len_after(tree, entry.len, change, put.len);
-        let first = first_number(change);
+        let put = measure_put(self.alloc, change);
+        let len = document_len_after(tree, entry.len, change, put.len);
+        let first = first_added_number(change);
         if let Some(refusal) = self.refusal_of_edit(doc, len, first, enters.as_slice()) {
             return Ok(Err(refusal));
         }
@@ -276,14 +283,14 @@ impl Store {
         doc: DocId,
         change: Change,
     ) -> Result<Result<Prepared, StoreRefusal>, NoMemory>
-        requires asks_change { Asks self.now.content doc change }
-        requires edits_document { act_of change ≡ Edits }
-        ensures plans_edit { IfOk result (Plans self.now.content doc change) }
+        requires asks_change { MayRequest self.now.content doc change }
+        requires edits_document { change_kind change ≡ Edits }
+        ensures plans_edit { IfOk result (IsPlanResult self.now.content doc change) }
     {
         let entry = self.stored_entry(&doc);
         match self.outline_edit(&doc, entry, &change)? {
             Ok(outline) => {
-                let prepared = edit(self.alloc, doc, entry, change, outline)?;
+                let prepared = prepare_edit(self.alloc, doc, entry, change, outline)?;
                 Ok(Ok(prepared))
             }
             Err(refusal) => Ok(Err(refusal)),
@@ -292,8 +299,9 @@ impl Store {
 
     // Plans the removal of a document.
     fn plan_removal(&self, doc: DocId) -> Result<Result<Prepared, StoreRefusal>, NoMemory>
-        requires { Asks self.now.content doc changes.RemoveDocument }
-        ensures plans_removal { IfOk result (Plans self.now.content doc changes.RemoveDocument) }
+        requires { MayRequest self.now.content doc changes.RemoveDocument }
+        ensures plans_removal { IfOk result
+            (IsPlanResult self.now.content doc changes.RemoveDocument) }
     {
         let Some((tree, tag)) = self.get(&doc) else {
             unreachable!()
@@ -303,14 +311,14 @@ impl Store {
         };
         let leaves = addresses(self.alloc, doc.auid, tree)?;
         let total = self.total_without(&doc);
-        let prepared = removal(self.alloc, doc, tag, number, leaves, total)?;
+        let prepared = prepare_removal(self.alloc, doc, tag, number, leaves, total)?;
         Ok(Ok(prepared))
     }
 
     // Plans any change.
     fn plan(&self, doc: DocId, change: Change) -> Result<Result<Prepared, StoreRefusal>, NoMemory>
-        requires { Asks self.now.content doc change }
-        ensures plans_change { IfOk result (Plans self.now.content doc change) }
+        requires { MayRequest self.now.content doc change }
+        ensures plans_change { IfOk result (IsPlanResult self.now.content doc change) }
     {
         match change {
             Change::CreateDocument { root } => self.plan_creation(doc, root),
@@ -321,12 +329,12 @@ impl Store {
 
     // Makes the tree of a document unshared, if a change is one within its root: so it can be made
     // in place.
-    fn unshare_for(&mut self, doc: &DocId, change: &Change) -> Result<(), NoMemory>
+    fn unshare_tree_for(&mut self, doc: &DocId, change: &Change) -> Result<(), NoMemory>
         ensures contents_unchanged { self.new.content ≡ self.old.content }
         ensures tree_unshared { OnOk result
-            (is_within change.now ≡ true → IsUnshared self.new.room.trees doc.now) }
+            (edits_within_root change.now ≡ true → IsUnshared self.new.room.trees doc.now) }
     {
-        if is_within(change) {
+        if edits_within_root(change) {
             return unshare(self.alloc, &mut self.documents, doc);
         }
         Ok(())
@@ -334,15 +342,15 @@ impl Store {
 
     // Makes the tree of a change's document unshared, if it is made in place, and reserves the
     // memory that it needs.
-    fn take_room(&mut self, prepared: &Prepared) -> Result<(), NoMemory>
+    fn reserve_memory(&mut self, prepared: &Prepared) -> Result<(), NoMemory>
         ensures contents_unchanged { self.new.content ≡ self.old.content }
         ensures document_room { OnOk result (1 ≤ self.new.room.documents) }
         ensures address_room { OnOk result (length prepared.now.enters ≤ self.new.room.services) }
         ensures tree_unshared { OnOk result
-            (is_within prepared.now.note.change ≡ true
+            (edits_within_root prepared.now.note.change ≡ true
             → IsUnshared self.new.room.trees prepared.now.doc) }
     {
-        self.unshare_for(&prepared.doc, prepared.note.change())?;
+        self.unshare_tree_for(&prepared.doc, prepared.note.change())?;
         self.reserve(prepared.added_address_count())
     }
 
@@ -359,19 +367,20 @@ impl Store {
         doc: DocId,
         change: Change,
     ) -> Result<Result<Prepared, StoreRefusal>, NoMemory>
-        requires { Asks self.old.content doc change }
+        requires { MayRequest self.old.content doc change }
         ensures contents_unchanged { self.new.content ≡ self.old.content }
         ensures prepared_change { IfOk result
             (λ r. IfOk r (λ p. (p.doc ≡ doc)
             × (change_result self.old.content doc change
-            ≡ Ok (p.note, content_after self.old.content doc change)) × (p.note.change ≡ change))) }
+            ≡ Ok (p.note, contents_after self.old.content doc change))
+            × (p.note.change ≡ change))) }
         ensures prepared_is_ready { IfOk result (λ r. IfOk r (λ p. IsReady self.new p)) }
         ensures first_refusal { IfOk result
             (λ r. IfErr r (λ e. change_result self.old.content doc change ≡ Err e)) }
     {
         match self.plan(doc, change)? {
             Ok(prepared) => {
-                self.take_room(&prepared)?;
+                self.reserve_memory(&prepared)?;
                 Ok(Ok(prepared))
             }
             Err(refusal) => Ok(Err(refusal)),

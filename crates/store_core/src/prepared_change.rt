@@ -23,13 +23,13 @@ pub struct Prepared {
 }
 
 impl Model for Prepared {
-    ghost use Rattle.store_core.specs.PreparedChanges.{Readied};
+    ghost use Rattle.store_core.specs.PreparedChanges.{PreparedChange};
     ghost use Rattle.std.specs.Coded.{codes};
     ghost use Rattle.doc_names.specs.contracts.doc_id.DocId as d;
     ghost use Rattle.edit_ops.specs.contracts.change.Change as c;
     ghost use Rattle.store_core.specs.contracts.step.Step as s;
 
-    ghost Value = { Readied };
+    ghost Value = { PreparedChange };
 
     ghost coded = { Prim.hlevel (codes, d.the_row.coded, c.the_row.coded, s.the_row.coded) };
 

@@ -16,7 +16,7 @@ pub struct PrintedTree {
 
 impl Model for PrintedTree {
     ghost use Rattle.xml_tree.specs.Tree.{Tree};
-    ghost use Rattle.xml_tree.specs.inner.Codes.{tree_code};
+    ghost use Rattle.xml_tree.specs.inner.TreeCodes.{tree_code};
     ghost use Rattle.store_core.specs.inner.Prints.{IsPrintOf};
 
     ghost Value = { Tree };

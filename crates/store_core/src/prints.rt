@@ -3,9 +3,9 @@ ghost use Rattle.std.specs.Prelude.{◌≡◌, encode_utf8_all, IfOk, Some};
 ghost use Rattle.std.specs.Map.{lookup};
 ghost use Rattle.indexmap.specs.IndexMap.{spare};
 ghost use Rattle.std.specs.Option.{option_map};
-ghost use Rattle.doc_names.specs.Equality.{same_id};
+ghost use Rattle.doc_names.specs.NameEquality.{same_id};
 ghost use Rattle.xml_tree.specs.Print.{document_print};
-ghost use Rattle.store_core.specs.DocumentChanges.{document_in, stored_name};
+ghost use Rattle.store_core.specs.DocumentChanges.{find_document, stored_id};
 
 use crate::NoMemory;
 use crate::entry::Entry;
@@ -53,7 +53,7 @@ impl Store {
     pub fn print(&mut self, doc: &DocId) -> Result<Option<Bytes>, NoMemory>
         ensures prints_document { IfOk result
             (λ print. print ≡ option_map (λ h. encode_utf8_all (document_print h.tree))
-            (document_in stored_name self.old.content.documents doc.now)) }
+            (find_document stored_id self.old.content.documents doc.now)) }
         ensures contents_unchanged { self.new ≡ self.old }
     {
         stored_print(self.alloc, &mut self.documents, doc)

@@ -1,8 +1,8 @@
 //! The length of a put element, and the print of a document put as a whole, which is made once for
 //! both (RFC 4825, section 8.3).
 ghost use Rattle.std.specs.Prelude.{◌≡◌, IfSome, min};
-ghost use Rattle.edit_ops.specs.Lengths.{element_len};
-ghost use Rattle.edit_ops.specs.InsertedElements.{BringsElement, inserted_part};
+ghost use Rattle.edit_ops.specs.PrintedLengths.{element_len};
+ghost use Rattle.edit_ops.specs.InsertedElements.{InsertsElement, inserted_element};
 ghost use Rattle.store_core.specs.inner.Prints.{IsInsertedPrint, IsPrintOf};
 ghost use Rattle.usage_docs.specs.Services.{document_len};
 ghost use Rattle.xml_names.specs.Markup.{byte_len};
@@ -10,7 +10,7 @@ ghost use Rattle.xml_tree.specs.Print.{print};
 ghost use Rattle.xml_tree.specs.Tree.{Tree};
 
 use crate::NoMemory;
-use crate::root_tests::is_within;
+use crate::root_changes::edits_within_root;
 use edit_ops::{Change, element_len};
 use std::alloc::Global;
 use tree_print::print_document;
@@ -39,7 +39,7 @@ pub(crate) fn document_len(root_len: usize) -> usize
 
 /// The root of a document that is put. If there is memory for its print, the print is measured.
 #[tactic(auto, using(crate::proofs::PutLengths::print_len))]
-pub(crate) fn put_root(alloc: Global, root: &Element) -> Put
+pub(crate) fn measure_root(alloc: Global, root: &Element) -> Put
     ensures counts_root { result.len ≡ min (byte_len (print root.now)) usize.MAX }
     ensures prints_document { IsPrintOf root.now result.print }
 {
@@ -56,11 +56,11 @@ pub(crate) fn put_root(alloc: Global, root: &Element) -> Put
 }
 
 // The root by which a change replaces a whole document.
-fn whole(change: &Change) -> Option<&Element>
+fn replacing_root(change: &Change) -> Option<&Element>
     ensures inserted_root { IfSome result
-        (λ root. BringsElement change.now × (root.now ≡ inserted_part change.now)) }
+        (λ root. InsertsElement change.now × (root.now ≡ inserted_element change.now)) }
 {
-    if is_within(change) {
+    if edits_within_root(change) {
         return None;
     }
     match change {
@@ -72,12 +72,12 @@ fn whole(change: &Change) -> Option<&Element>
 
 /// The length and the print of what a change puts.
 #[tactic(auto, using(crate::proofs::PutLengths::inserted_len, crate::proofs::PutLengths::inserted_print))]
-pub(crate) fn put_by(alloc: Global, change: &Change) -> Put
+pub(crate) fn measure_put(alloc: Global, change: &Change) -> Put
     ensures counts_element { result.len ≡ min (element_len change.now) usize.MAX }
     ensures prints_document { IsInsertedPrint change.now result.print }
 {
-    match whole(change) {
-        Some(root) => put_root(alloc, root),
+    match replacing_root(change) {
+        Some(root) => measure_root(alloc, root),
         None => Put {
             len: element_len(change),
             print: None,

@@ -5,7 +5,7 @@ ghost use Rattle.std.specs.Prelude.{if◌then◌else◌};
 ghost use Rattle.std.specs.Set.{is_member};
 ghost use Rattle.std.specs.Str.{bytes_eq};
 ghost use Rattle.indexmap.specs.IndexMap.{spare};
-ghost use Rattle.store_core.specs.inner.StoreMemory.{is_others, registered_number};
+ghost use Rattle.store_core.specs.inner.StoreMemory.{is_held_by_other, registered_number};
 
 use indexmap::IndexMap;
 use xml_names::Text;
@@ -16,7 +16,7 @@ pub(crate) type Registry = IndexMap<Text, u64>;
 
 // Whether a document other than the one with this number has an address.
 fn is_taken(registry: &Registry, uri: &Text, own: Option<u64>) -> bool
-    ensures exact { result ≡ is_others own (registered_number registry.now.entries uri.now) }
+    ensures exact { result ≡ is_held_by_other own (registered_number registry.now.entries uri.now) }
 {
     let Some(holder) = registry.get(uri) else {
         return false;
@@ -31,7 +31,8 @@ fn is_taken(registry: &Registry, uri: &Text, own: Option<u64>) -> bool
 /// has.
 pub(crate) fn first_conflict(registry: &Registry, uris: &[Text], own: Option<u64>) -> Option<usize>
     ensures exact { result
-        ≡ position (λ uri. is_others own (registered_number registry.now.entries uri)) uris.now }
+        ≡ position
+        (λ uri. is_held_by_other own (registered_number registry.now.entries uri)) uris.now }
 {
     uris.iter().position(|uri| is_taken(registry, uri, own))
 }
@@ -39,7 +40,7 @@ pub(crate) fn first_conflict(registry: &Registry, uris: &[Text], own: Option<u64
 // ---- changes
 
 /// Adds addresses, for which memory is reserved.
-pub(crate) fn enter(registry: &mut Registry, mut uris: Vec<Text>, number: u64)
+pub(crate) fn register_addresses(registry: &mut Registry, mut uris: Vec<Text>, number: u64)
     requires { vec_len uris ≤ spare registry.old }
     ensures registers_these { (uri : List ℕ)
         → registered_number registry.new.entries uri
@@ -52,7 +53,7 @@ pub(crate) fn enter(registry: &mut Registry, mut uris: Vec<Text>, number: u64)
 }
 
 /// Removes addresses.
-pub(crate) fn leave(registry: &mut Registry, uris: &[Text])
+pub(crate) fn release_addresses(registry: &mut Registry, uris: &[Text])
     ensures frees_addresses { (uri : List ℕ)
         → registered_number registry.new.entries uri
         ≡ (if is_member bytes_eq uris.now uri then None else registered_number registry.old.entries

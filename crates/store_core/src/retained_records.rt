@@ -1,9 +1,9 @@
 //! The retained records of a document's changes (RFC 5874, section 3).
 ghost use Rattle.std.specs.Prelude.{◌≡◌, ◌+◌, ◌<◌, ◌≤◌, ◌++◌, ◌∷◌, [], true, false, length, IfOk};
-ghost use Rattle.edit_ops.specs.Operations.{weight};
+ghost use Rattle.edit_ops.specs.DiffOperations.{weight};
 ghost use Rattle.edit_ops.specs.RecordParts.{all_notes};
-ghost use Rattle.store_core.specs.State.{is_small, retained};
-ghost use Rattle.store_core.specs.inner.Rings.{IsRing, counted_weight, counted_in};
+ghost use Rattle.store_core.specs.State.{is_within_retention, retained_notes};
+ghost use Rattle.store_core.specs.inner.RecordRings.{IsRecordRing, counted_weight, optional_weight};
 
 use crate::limits::{MAX_NOTES, MAX_WEIGHT};
 use circular_buffer::HeapCircularBuffer;
@@ -27,7 +27,7 @@ impl Model for RetainedRecords {
     ghost use Rattle.std.specs.Coded.{codes};
     ghost use Rattle.edit_ops.specs.contracts.change.Change as c;
     ghost use Rattle.edit_ops.specs.Notes.{Note};
-    ghost use Rattle.store_core.specs.inner.Rings.{IsRing};
+    ghost use Rattle.store_core.specs.inner.RecordRings.{IsRecordRing};
 
     ghost Value = { List Note };
 
@@ -35,7 +35,7 @@ impl Model for RetainedRecords {
 
     ghost view = { λ r. r.ring.items };
 
-    ghost invariant = { λ r. IsRing r.ring r.count };
+    ghost invariant = { λ r. IsRecordRing r.ring r.count };
 }
 
 impl RetainedRecords {
@@ -58,7 +58,7 @@ impl RetainedRecords {
     /// Appends a record, and drops the oldest ones that are not retained with it. Does not
     /// allocate.
     pub(crate) fn keep(&mut self, note: EditNote)
-        ensures keeps_retained { self.new ≡ retained (self.old ++ note ∷ []) }
+        ensures keeps_retained { self.new ≡ retained_notes (self.old ++ note ∷ []) }
     {
         keep(&mut self.ring, &mut self.count, note);
     }
@@ -75,9 +75,9 @@ fn counted_weight(note: &EditNote) -> usize
 }
 
 // Subtracts the weight of a dropped record, if there is one.
-fn give_up(count: &mut usize, note: Option<EditNote>)
-    requires { counted_in note ≤ count.old }
-    ensures count_less_record { count.new + counted_in note ≡ count.old }
+fn subtract_weight(count: &mut usize, note: Option<EditNote>)
+    requires { optional_weight note ≤ count.old }
+    ensures count_less_record { count.new + optional_weight note ≡ count.old }
 {
     if let Some(note) = note {
         *count -= counted_weight(&note);
@@ -85,11 +85,11 @@ fn give_up(count: &mut usize, note: Option<EditNote>)
 }
 
 // Whether the oldest record of a ring has to go, where all count `count` together.
-fn is_heavy(notes: &NoteRing, count: usize) -> bool
-    requires { IsRing notes.now count }
+fn exceeds_weight_limit(notes: &NoteRing, count: usize) -> bool
+    requires { IsRecordRing notes.now count }
     ensures heavy_exceeds { result ≡ true → (1 < length notes.now.items)
-        × (is_small weight notes.now.items ≡ false) }
-    ensures light_is_whole { result ≡ false → retained notes.now.items ≡ notes.now.items }
+        × (is_within_retention weight notes.now.items ≡ false) }
+    ensures light_is_whole { result ≡ false → retained_notes notes.now.items ≡ notes.now.items }
 {
     if notes.len() <= 1 {
         return false;
@@ -99,32 +99,32 @@ fn is_heavy(notes: &NoteRing, count: usize) -> bool
 
 // Drops the oldest records, until the others may be retained.
 fn trim(notes: &mut NoteRing, count: &mut usize)
-    requires { IsRing notes.old count.old }
-    ensures ring_counted { IsRing notes.new count.new }
-    ensures keeps_retained { notes.new.items ≡ retained notes.old.items }
+    requires { IsRecordRing notes.old count.old }
+    ensures ring_counted { IsRecordRing notes.new count.new }
+    ensures keeps_retained { notes.new.items ≡ retained_notes notes.old.items }
 {
-    'oldest: while is_heavy(notes, *count) {
-        give_up(count, notes.pop_front());
+    'oldest: while exceeds_weight_limit(notes, *count) {
+        subtract_weight(count, notes.pop_front());
     }
 }
 
 // Appends a record; the oldest one is dropped if the ring is full.
 fn push(notes: &mut NoteRing, count: &mut usize, note: EditNote)
-    requires { IsRing notes.old count.old }
-    ensures ring_counted { IsRing notes.new count.new }
-    ensures retained_with_record { retained notes.new.items
-        ≡ retained (notes.old.items ++ note ∷ []) }
+    requires { IsRecordRing notes.old count.old }
+    ensures ring_counted { IsRecordRing notes.new count.new }
+    ensures retained_with_record { retained_notes notes.new.items
+        ≡ retained_notes (notes.old.items ++ note ∷ []) }
 {
     let _count = notes.len();
     *count += counted_weight(&note);
-    give_up(count, notes.push_back(note));
+    subtract_weight(count, notes.push_back(note));
 }
 
 // Appends a record, and drops the oldest ones that are not retained with it.
 fn keep(notes: &mut NoteRing, count: &mut usize, note: EditNote)
-    requires { IsRing notes.old count.old }
-    ensures ring_counted { IsRing notes.new count.new }
-    ensures keeps_retained { notes.new.items ≡ retained (notes.old.items ++ note ∷ []) }
+    requires { IsRecordRing notes.old count.old }
+    ensures ring_counted { IsRecordRing notes.new count.new }
+    ensures keeps_retained { notes.new.items ≡ retained_notes (notes.old.items ++ note ∷ []) }
 {
     push(notes, count, note);
     trim(notes, count);

@@ -1,8 +1,8 @@
 //! The root of a document's tree: unshared, or shared with a change record.
 ghost use Rattle.std.specs.Prelude.{◌≡◌, OnOk, true};
-ghost use Rattle.edit_ops.specs.Changes.{Fits, edited};
+ghost use Rattle.edit_ops.specs.Changes.{FitsTree, edited};
 ghost use Rattle.edit_ops.specs.StagedChanges.{IsStaged};
-ghost use Rattle.store_core.specs.inner.Roots.{is_own, root_in};
+ghost use Rattle.store_core.specs.inner.Roots.{is_unshared, root_view};
 
 use crate::NoMemory;
 use edit_ops::{Change, RecordedTree, Staged, apply_staged};
@@ -21,8 +21,8 @@ pub enum Root {
 }
 
 // A root without a name, as a placeholder for one that is moved out.
-fn nameless(alloc: Global) -> Root
-    ensures own_is_unshared { is_own result ≡ true }
+fn nameless_root(alloc: Global) -> Root
+    ensures own_is_unshared { is_unshared result ≡ true }
 {
     let name = Name {
         prefix: Prefix::empty(),
@@ -33,7 +33,7 @@ fn nameless(alloc: Global) -> Root
 
 // A copy of a record's root; or that root, when out of memory.
 fn copy_root(alloc: Global, tree: RecordedTree) -> Root
-    ensures same_root { root_in result ≡ tree }
+    ensures same_root { root_view result ≡ tree }
 {
     match copy_tree(alloc, tree.root()) {
         Ok(copy) => Root::Own(copy),
@@ -44,7 +44,7 @@ fn copy_root(alloc: Global, tree: RecordedTree) -> Root
 // A record's root, unshared: moved out of the record, if nobody else has that any more, else
 // copied, if there is memory for that.
 fn take_root(alloc: Global, tree: RecordedTree) -> Root
-    ensures same_root { root_in result ≡ tree }
+    ensures same_root { root_view result ≡ tree }
 {
     match tree.into_root() {
         Ok(root) => Root::Own(root),
@@ -55,7 +55,7 @@ fn take_root(alloc: Global, tree: RecordedTree) -> Root
 impl Root {
     /// Borrows the root. Does not allocate.
     pub(crate) fn lent(&self) -> &Element
-        ensures exact { result.now ≡ root_in self.now }
+        ensures exact { result.now ≡ root_view self.now }
     {
         match self {
             Root::Own(root) => root,
@@ -64,8 +64,8 @@ impl Root {
     }
 
     // Whether nobody shares it.
-    fn is_own(&self) -> bool
-        ensures ok { result ≡ is_own self.now }
+    fn is_unshared(&self) -> bool
+        ensures ok { result ≡ is_unshared self.now }
     {
         match self {
             Root::Own(_) => true,
@@ -75,7 +75,7 @@ impl Root {
 
     // The root, unshared, if there is memory for the copy that may be needed.
     fn make_unshared(self, alloc: Global) -> Root
-        ensures same_root { root_in result ≡ root_in self }
+        ensures same_root { root_view result ≡ root_view self }
     {
         match self {
             Root::Own(root) => Root::Own(root),
@@ -89,12 +89,12 @@ impl Root {
     /// # Errors
     /// `NoMemory` when out of memory for the copy.
     pub(crate) fn unshare(&mut self, alloc: Global) -> Result<(), NoMemory>
-        ensures same_root { root_in self.new ≡ root_in self.old }
-        ensures own_is_unshared { OnOk result (is_own self.new ≡ true) }
+        ensures same_root { root_view self.new ≡ root_view self.old }
+        ensures own_is_unshared { OnOk result (is_unshared self.new ≡ true) }
     {
-        let root = mem::replace(self, nameless(alloc));
+        let root = mem::replace(self, nameless_root(alloc));
         *self = root.make_unshared(alloc);
-        if self.is_own() {
+        if self.is_unshared() {
             return Ok(());
         }
         Err(NoMemory)
@@ -102,10 +102,10 @@ impl Root {
 
     /// Makes a change in place, in an unshared root. Does not allocate.
     pub(crate) fn make_in_place(&mut self, change: &Change, staged: Staged)
-        requires tree_owned { is_own self.old ≡ true }
-        requires fits { Fits (root_in self.old) change.now }
-        requires change_staged { IsStaged (root_in self.old) change.now staged }
-        ensures makes_change { root_in self.new ≡ edited (root_in self.old) change.now }
+        requires tree_owned { is_unshared self.old ≡ true }
+        requires fits { FitsTree (root_view self.old) change.now }
+        requires change_staged { IsStaged (root_view self.old) change.now staged }
+        ensures makes_change { root_view self.new ≡ edited (root_view self.old) change.now }
     {
         match self {
             Root::Own(root) => apply_staged(root, change, staged),

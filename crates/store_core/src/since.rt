@@ -5,15 +5,15 @@ ghost use Rattle.doc_names.specs.declared.doc_id.DocId.{DocId};
 ghost use Rattle.edit_ops.specs.Notes.{Note};
 ghost use Rattle.edit_ops.specs.RecordParts.{all_notes};
 ghost use Rattle.store_core.specs.Contents.{Represents, StoreContents};
-ghost use Rattle.store_core.specs.History.{IsSince};
+ghost use Rattle.store_core.specs.History.{AreRecordsSince};
 ghost use Rattle.store_core.specs.ValidStates.{IsValidState};
 ghost use Rattle.store_core.specs.Since.{ReportedChanges, notes_from, since};
 ghost use Rattle.store_core.specs.inner.ChangesSince.{changes_since_of};
 ghost use Rattle.store_core.specs.State.{State};
-ghost use Rattle.store_core.specs.ChangesSince.{changes_since_in};
+ghost use Rattle.store_core.specs.ChangesSince.{changes_since_view};
 
 use crate::entry::Entry;
-use crate::step::find;
+use crate::step::find_entry;
 use crate::store::Store;
 use doc_names::DocId;
 use edit_ops::{EditNote, Notes};
@@ -42,7 +42,7 @@ fn records_from_tag(notes: &[EditNote], tag: u64) -> Option<&[EditNote]>
 }
 
 // The records from this etag on as two slices, of which the older is empty.
-fn from_tag_alone(newer: &[EditNote], tag: u64) -> Option<Notes<'_>>
+fn newer_records_from_tag(newer: &[EditNote], tag: u64) -> Option<Notes<'_>>
     ensures exact { option_map (λ found. all_notes found.older.now found.newer.now) result
         ≡ notes_from tag newer.now }
 {
@@ -69,13 +69,13 @@ fn records_from_tag_in<'a>(
             older: found,
             newer,
         }),
-        None => from_tag_alone(newer, tag),
+        None => newer_records_from_tag(newer, tag),
     }
 }
 
 // The changes of an entry's document since this etag.
-fn since_in_entry(entry: &Entry, tag: u64) -> Since<'_>
-    ensures exact { changes_since_in result
+fn entry_changes_since(entry: &Entry, tag: u64) -> Since<'_>
+    ensures exact { changes_since_view result
         ≡ (if entry.now.tag == tag then ReportedChanges []
         else changes_since_of (notes_from tag entry.now.notes)) }
 {
@@ -97,10 +97,10 @@ impl Store {
     /// stored, `Unknown` exactly where the etag is neither its own nor the one before a retained
     /// record, else the records from there on, borrowed. Does not allocate.
     pub fn since(&self, doc: &DocId, tag: u64) -> Since<'_>
-        ensures exact { changes_since_in result ≡ since self.now.content doc.now tag }
+        ensures exact { changes_since_view result ≡ since self.now.content doc.now tag }
     {
-        match find(&self.documents, doc) {
-            Some(entry) => since_in_entry(entry, tag),
+        match find_entry(&self.documents, doc) {
+            Some(entry) => entry_changes_since(entry, tag),
             None => Since::Gone,
         }
     }
@@ -112,5 +112,5 @@ impl Store {
 pub fn notes_since_a_version_lead_from_it()
     ensures records_lead_here { (c : StoreContents) (m : State) (id : DocId) (tag : ℕ)
         (ns : List Note) → IsValidState m → Represents c m → since c id tag ≡ ReportedChanges ns
-        → IsSince m id tag ns }
+        → AreRecordsSince m id tag ns }
 {}

@@ -4,14 +4,15 @@ ghost use Rattle.std.specs.Prelude.{if◌then◌else◌};
 ghost use Rattle.std.specs.Map.{lookup};
 ghost use Rattle.std.specs.Option.{option_copied};
 ghost use Rattle.indexmap.specs.IndexMap.{spare};
-ghost use Rattle.doc_names.specs.Equality.{same_id};
-ghost use Rattle.edit_ops.specs.Changes.{Fits};
+ghost use Rattle.doc_names.specs.NameEquality.{same_id};
+ghost use Rattle.edit_ops.specs.Changes.{FitsTree};
 ghost use Rattle.store_core.specs.declared.entry.Entry.{Entry as Held};
-ghost use Rattle.store_core.specs.TreeChanges.{NeedsUnshared, IsStagedIn};
+ghost use Rattle.store_core.specs.TreeChanges.{IsUnsharedIfInPlace, IsStagedTreeFor};
 ghost use Rattle.store_core.specs.inner.UnsharedTrees.{IsUnshared};
-ghost use Rattle.store_core.specs.inner.StoreMemory.{IsRenewed, all_as_unshared, trees_in};
+ghost use Rattle.store_core.specs.inner.StoreMemory.{IsUpdatedEntry, all_as_unshared};
+ghost use Rattle.store_core.specs.inner.StoreMemory.{unshared_flags};
 
-use crate::entry::{Entry, make_tree_unique, update_entry};
+use crate::entry::{Entry, unshare_tree, update_entry};
 use crate::staged_tree::StagedTree;
 use doc_names::DocId;
 use edit_ops::EditNote;
@@ -37,7 +38,7 @@ pub enum Step {
 }
 
 /// The entry of a document.
-pub(crate) fn find<'a>(documents: &'a Documents, doc: &DocId) -> Option<&'a Entry>
+pub(crate) fn find_entry<'a>(documents: &'a Documents, doc: &DocId) -> Option<&'a Entry>
     ensures exact { option_copied result ≡ lookup (same_id doc.now) documents.now.entries }
 {
     documents.get(doc)
@@ -54,16 +55,17 @@ pub(crate) fn unshare(
 ) -> Result<(), AllocError>
     ensures contents_unchanged { all_as_unshared documents.new.entries
         ≡ all_as_unshared documents.old.entries }
-    ensures tree_unshared { OnOk result (IsUnshared (trees_in documents.new.entries) doc.now) }
+    ensures tree_unshared { OnOk result
+        (IsUnshared (unshared_flags documents.new.entries) doc.now) }
 {
     match documents.get_mut(doc) {
-        Some(entry) => make_tree_unique(alloc, entry),
+        Some(entry) => unshare_tree(alloc, entry),
         None => Ok(()),
     }
 }
 
 // Appends a new document.
-fn make(documents: &mut Documents, doc: DocId, entry: Entry)
+fn append_document(documents: &mut Documents, doc: DocId, entry: Entry)
     requires absent { lookup (same_id doc) documents.old.entries ≡ None }
     requires room_left { 0 < spare documents.old }
     ensures appends_entry { documents.new.entries ≡ documents.old.entries ++ (doc, entry) ∷ [] }
@@ -73,7 +75,7 @@ fn make(documents: &mut Documents, doc: DocId, entry: Entry)
 
 // Makes the edit of a change record in a stored document, retains the record, and returns the
 // number of the document's creation.
-fn exchange(
+fn edit_document(
     documents: &mut Documents,
     doc: &DocId,
     number: u64,
@@ -82,10 +84,11 @@ fn exchange(
     len: usize,
 ) -> u64
     requires { (v : Held) × (lookup (same_id doc.now) documents.old.entries ≡ Some v)
-        × Fits v.tree.root note.change × IsStagedIn v.tree.root note.change staged
-        × NeedsUnshared staged v.tree.own }
+        × FitsTree v.tree.root note.change × IsStagedTreeFor v.tree.root note.change staged
+        × IsUnsharedIfInPlace staged v.tree.own }
     ensures renews_entry { (v : Held) × (w : Held)
-        × (lookup (same_id doc.now) documents.old.entries ≡ Some v) × IsRenewed v number note len w
+        × (lookup (same_id doc.now) documents.old.entries ≡ Some v)
+        × IsUpdatedEntry v number note len w
         × (documents.new.entries
         ≡ map (λ e. if same_id doc.now e.0 then (e.0, w) else e) documents.old.entries)
         × (result ≡ w.created) }
@@ -100,7 +103,7 @@ fn exchange(
 }
 
 // Removes a document; the others keep their order.
-fn end(documents: &mut Documents, doc: &DocId)
+fn remove_document(documents: &mut Documents, doc: &DocId)
     ensures tree_changed { documents.new.entries
         ≡ filter (λ e. not (same_id doc.now e.0)) documents.old.entries }
 {
@@ -109,11 +112,11 @@ fn end(documents: &mut Documents, doc: &DocId)
 }
 
 impl Step {
-    ghost use Rattle.store_core.specs.inner.ChangePlans.{Steppable, TakesStep};
+    ghost use Rattle.store_core.specs.inner.ChangePlans.{CanTakeStep, TakesStep};
 
     /// Makes the step under a number, and returns the number of the document's creation.
-    pub(crate) fn take(self, documents: &mut Documents, doc: &DocId, number: u64) -> u64
-        requires fits { Steppable documents.old.entries doc.now self }
+    pub(crate) fn apply_to(self, documents: &mut Documents, doc: &DocId, number: u64) -> u64
+        requires fits { CanTakeStep documents.old.entries doc.now self }
         requires room_left { 0 < spare documents.old }
         ensures takes_step { TakesStep
             (record { entries = documents.old.entries; doc = doc.now; number = number })
@@ -122,14 +125,14 @@ impl Step {
         match self {
             Step::Make(key, entry) => {
                 let created = entry.created;
-                make(documents, key, entry);
+                append_document(documents, key, entry);
                 created
             }
             Step::Edit { staged, kept, len } => {
-                exchange(documents, doc, number, staged, kept, len)
+                edit_document(documents, doc, number, staged, kept, len)
             }
             Step::End => {
-                end(documents, doc);
+                remove_document(documents, doc);
                 number
             }
         }

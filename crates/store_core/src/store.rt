@@ -6,13 +6,13 @@ ghost use Rattle.xml_tree.specs.Tree.{Tree, height};
 ghost use Rattle.usage_docs.specs.Services.{document_len};
 ghost use Rattle.store_core.specs.State.{State};
 ghost use Rattle.store_core.specs.Contents.{Represents};
-ghost use Rattle.store_core.specs.ValidStates.{IsSoundFor, IsValidState};
+ghost use Rattle.store_core.specs.ValidStates.{IsSoundDocumentFor, IsValidState};
 ghost use Rattle.doc_names.specs.Usages.{usage_of};
-ghost use Rattle.store_core.specs.DocumentChanges.{document_in, stored_name};
+ghost use Rattle.store_core.specs.DocumentChanges.{find_document, stored_id};
 
 use crate::NoMemory;
 use crate::registry::Registry;
-use crate::step::{Documents, find};
+use crate::step::{Documents, find_entry};
 use doc_names::DocId;
 use indexmap::IndexMap;
 use std::alloc::{AllocError, Global};
@@ -32,28 +32,30 @@ pub struct Store {
 
 impl Model for Store {
     ghost use Rattle.std.specs.Prelude.{◌+◌};
-    ghost use Rattle.store_core.specs.StoreViews.{Stored};
+    ghost use Rattle.store_core.specs.StoreViews.{StoreView};
     ghost use Rattle.indexmap.specs.IndexMap.{spare};
-    ghost use Rattle.store_core.specs.inner.StoreMemory.{IsStoring, content_in, trees_in};
+    ghost use Rattle.store_core.specs.inner.StoreMemory.{IsConsistentStore, contents_view};
+    ghost use Rattle.store_core.specs.inner.StoreMemory.{unshared_flags};
     ghost use Rattle.std.specs.Coded.{codes};
-    ghost use Rattle.xml_tree.specs.inner.Codes.{tree_code};
+    ghost use Rattle.xml_tree.specs.inner.TreeCodes.{tree_code};
     ghost use Rattle.doc_names.specs.contracts.doc_id.DocId as d;
     ghost use Rattle.edit_ops.specs.contracts.change.Change as c;
 
-    ghost Value = { Stored };
+    ghost Value = { StoreView };
 
     ghost coded = { Prim.hlevel (codes, tree_code, d.the_row.coded, c.the_row.coded) };
 
     ghost view = { λ s. record {
-      content = content_in s.documents.entries s.last;
+      content = contents_view s.documents.entries s.last;
       room = record {
         documents = spare s.documents;
         services = spare s.services;
-        trees = trees_in s.documents.entries;
+        trees = unshared_flags s.documents.entries;
       };
     } };
 
-    ghost invariant = { λ s. IsStoring s.documents.entries s.services.entries s.last s.total };
+    ghost invariant = { λ s.
+        IsConsistentStore s.documents.entries s.services.entries s.last s.total };
 }
 
 impl Store {
@@ -81,11 +83,12 @@ impl Store {
     pub fn get(&self, doc: &DocId) -> Option<(&Element, u64)>
         ensures stored_version { option_map (λ x. (x.0.now, x.1)) result
             ≡ option_map {U = Tree × ℕ} (λ h. (h.tree, h.tag))
-            (document_in stored_name self.now.content.documents doc.now) }
+            (find_document stored_id self.now.content.documents doc.now) }
         ensures within_levels { IfSome result (λ x. height x.0.now ≤ MAX_LEVELS) }
-        ensures tree_is_sound { IfSome result (λ x. IsSoundFor (usage_of doc.now.auid) x.0.now) }
+        ensures tree_is_sound { IfSome result
+            (λ x. IsSoundDocumentFor (usage_of doc.now.auid) x.0.now) }
     {
-        let entry = find(&self.documents, doc)?;
+        let entry = find_entry(&self.documents, doc)?;
         Some((entry.tree.root(), entry.tag))
     }
 

@@ -7,35 +7,35 @@ use Rattle.std.proofs.lemmas.Grind.{flat_map-append}
 use Rattle.std.proofs.lemmas.List.{take_more}
 use Rattle.std.proofs.lemmas.Bool.Decides.{nat_tests}
 use Rattle.xml_names.proofs.Escapes.{encode-text, encode-value}
-use Rattle.tree_print.specs.declared.escapes.Place.{Place}
-use Rattle.tree_print.specs.declared.escapes.Place.TheVariants.{Content, Quotes}
-use Rattle.tree_print.specs.inner.Escapes.{escape_in}
+use Rattle.tree_print.specs.declared.escapes.EscapeContext.{EscapeContext}
+use Rattle.tree_print.specs.declared.escapes.EscapeContext.TheVariants.{Content, Quotes}
+use Rattle.tree_print.specs.inner.Escapes.{escaped_char}
 use Rattle.tree_print.proofs.PrintLemmas.{three}
 
 -- what is not ASCII is plain
-pub escape_high : (p : Place) (c : ℕ) → 128 ≤ c → escape_in p c ≡ c ∷ []
+pub escape_high : (p : EscapeContext) (c : ℕ) → 128 ≤ c → escaped_char p c ≡ c ∷ []
 escape_high Content c h = grind (arith, nat_tests)
 escape_high Quotes c h = grind (arith, nat_tests)
 
-encode-in : (p : Place) (cs : List ℕ) → encode_utf8_all (flat_map (escape_in p) cs) ≡ flat_map (escape_in p) (encode_utf8_all cs)
+encode-in : (p : EscapeContext) (cs : List ℕ) → encode_utf8_all (flat_map (escaped_char p) cs) ≡ flat_map (escaped_char p) (encode_utf8_all cs)
 encode-in Content cs = encode-text cs
 encode-in Quotes cs = encode-value cs
 
 -- a text whose bytes are plain
-pub plain_chars : (p : Place) (bs : List ℕ) → IsUtf8 bs → flat_map (escape_in p) bs ≡ bs → flat_map (escape_in p) (chars bs) ≡ chars bs
-plain_chars p bs u plain = encodes_same _ _ (encode-in p (chars bs) ∙ ap (flat_map (escape_in p)) (encodes-chars bs u) ∙ plain ∙ sym (encodes-chars bs u))
+pub plain_chars : (p : EscapeContext) (bs : List ℕ) → IsUtf8 bs → flat_map (escaped_char p) bs ≡ bs → flat_map (escaped_char p) (chars bs) ≡ chars bs
+plain_chars p bs u plain = encodes_same _ _ (encode-in p (chars bs) ∙ ap (flat_map (escaped_char p)) (encodes-chars bs u) ∙ plain ∙ sym (encodes-chars bs u))
 
 -- one more plain byte
-pub plain_more : (p : Place) (bs : List ℕ) (i : ℕ) → i < length bs → flat_map (escape_in p) (take i bs) ≡ take i bs → escape_in p (get_or bs i 0) ≡ get_or bs i 0 ∷ [] → flat_map (escape_in p) (take (i + 1) bs) ≡ take (i + 1) bs
+pub plain_more : (p : EscapeContext) (bs : List ℕ) (i : ℕ) → i < length bs → flat_map (escaped_char p) (take i bs) ≡ take i bs → escaped_char p (get_or bs i 0) ≡ get_or bs i 0 ∷ [] → flat_map (escaped_char p) (take (i + 1) bs) ≡ take (i + 1) bs
 plain_more p bs i within so_far one =
     let more = take_more bs i 0 within in
-    ap (flat_map (escape_in p)) more ∙ flat_map-append (escape_in p) (take i bs) (get_or bs i 0 ∷ []) ∙ ap (λ l. l ++ (escape_in p (get_or bs i 0) ++ [])) so_far ∙ ap (λ l. take i bs ++ (l ++ [])) one ∙ sym more
+    ap (flat_map (escaped_char p)) more ∙ flat_map-append (escaped_char p) (take i bs) (get_or bs i 0 ∷ []) ∙ ap (λ l. l ++ (escaped_char p (get_or bs i 0) ++ [])) so_far ∙ ap (λ l. take i bs ++ (l ++ [])) one ∙ sym more
 
 -- what follows the plain bytes of a text: a reference, and a text that is shorter
-pub escaped_next : (p : Place) (bs reference : List ℕ) (i : ℕ) → IsUtf8 bs → i < length bs → get_or bs i 0 < 128 → flat_map (escape_in p) (take i bs) ≡ take i bs → reference ≡ escape_in p (get_or bs i 0)
-    → chars (take i bs) ++ (reference ++ flat_map (escape_in p) (chars (drop (i + 1) bs))) ≡ flat_map (escape_in p) (chars bs)
+pub escaped_next : (p : EscapeContext) (bs reference : List ℕ) (i : ℕ) → IsUtf8 bs → i < length bs → get_or bs i 0 < 128 → flat_map (escaped_char p) (take i bs) ≡ take i bs → reference ≡ escaped_char p (get_or bs i 0)
+    → chars (take i bs) ++ (reference ++ flat_map (escaped_char p) (chars (drop (i + 1) bs))) ≡ flat_map (escaped_char p) (chars bs)
 escaped_next p bs reference i u within low plain is =
-    let f = escape_in p in
+    let f = escaped_char p in
     let c = get_or bs i 0 in
     let behind = drop (i + 1) bs in
     let bound = IsCharBoundary-before_ascii bs i within low in
@@ -47,18 +47,18 @@ escaped_next p bs reference i u within low plain is =
     ∙ ap (λ r. chars (take i bs) ++ (r ++ flat_map f (chars behind))) (sym is))
 
 -- the print so far, with one more run of plain bytes and the reference after it
-pub escaped_more : (p : Place) (old out begun made rest bytes plain reference after : List ℕ) (i : ℕ) → IsUtf8 bytes → bytes ≡ rest → i < length bytes → get_or bytes i 0 < 128
-    → flat_map (escape_in p) (take i bytes) ≡ take i bytes → chars reference ≡ escape_in p (get_or bytes i 0) → plain ≡ take i rest → after ≡ drop (i + 1) rest → begun ≡ out ++ chars plain → made ≡ begun ++ chars reference
-    → out ++ flat_map (escape_in p) (chars rest) ≡ old → made ++ flat_map (escape_in p) (chars after) ≡ old
+pub escaped_more : (p : EscapeContext) (old out begun made rest bytes plain reference after : List ℕ) (i : ℕ) → IsUtf8 bytes → bytes ≡ rest → i < length bytes → get_or bytes i 0 < 128
+    → flat_map (escaped_char p) (take i bytes) ≡ take i bytes → chars reference ≡ escaped_char p (get_or bytes i 0) → plain ≡ take i rest → after ≡ drop (i + 1) rest → begun ≡ out ++ chars plain → made ≡ begun ++ chars reference
+    → out ++ flat_map (escaped_char p) (chars rest) ≡ old → made ++ flat_map (escaped_char p) (chars after) ≡ old
 escaped_more p old out begun made rest bytes plain reference after i u same within low front is cut left one two so_far =
-    let f = flat_map (escape_in p) in
+    let f = flat_map (escaped_char p) in
     ap (λ l. l ++ f (chars after)) (two ∙ ap (λ l. l ++ chars reference) one) ∙ three out (chars plain) (chars reference) (f (chars after))
     ∙ ap (λ l. out ++ (chars l ++ (chars reference ++ f (chars after)))) (cut ∙ ap (take i) (sym same))
     ∙ ap (λ l. out ++ (chars (take i bytes) ++ (chars reference ++ f (chars l)))) (left ∙ ap (drop (i + 1)) (sym same))
     ∙ ap (λ l. out ++ l) (escaped_next p bytes (chars reference) i u within low front is ∙ ap (λ l. f (chars l)) same) ∙ so_far
 
 -- and with the plain bytes at the end
-pub escaped_all : (p : Place) (old out rest bytes : List ℕ) → IsUtf8 bytes → bytes ≡ rest → flat_map (escape_in p) bytes ≡ bytes → out ++ flat_map (escape_in p) (chars rest) ≡ old → out ++ chars rest ≡ old
+pub escaped_all : (p : EscapeContext) (old out rest bytes : List ℕ) → IsUtf8 bytes → bytes ≡ rest → flat_map (escaped_char p) bytes ≡ bytes → out ++ flat_map (escaped_char p) (chars rest) ≡ old → out ++ chars rest ≡ old
 escaped_all p old out rest bytes u same plain so_far =
-    let f = flat_map (escape_in p) in
+    let f = flat_map (escaped_char p) in
     ap (λ l. out ++ l) (ap chars (sym same) ∙ sym (plain_chars p bytes u plain) ∙ ap (λ l. f (chars l)) same) ∙ so_far

@@ -1,7 +1,7 @@
 -- Prints composed from left to right.
 use Rattle.std.proofs.Common.{◌≡◌, ℕ, ◌+◌, ◌<◌, ◌≤◌, Bool, true, false, List, [], ◌∷◌, ◌++◌, length, drop, get_or, refl, sym, ap, ◌∙◌, append_assoc}
 use Rattle.std.proofs.lemmas.List.{append-nil, drop_all}
-use Rattle.xml_tree.specs.Nodes.{content_of, AreNormal}
+use Rattle.xml_tree.specs.Nodes.{content_of, AreNormalized}
 use Rattle.xml_names.specs.Markup.{end_tag_text, xmlns_name}
 use Rattle.xml_tree.specs.Print.{rest_of_element, is_empty, print_content}
 use Rattle.xml_tree.specs.inner.Print.{print_node}
@@ -78,7 +78,7 @@ ending_filled n empty inside h = rw h refl
 pub bare_end : (old out : List ℕ) (e : Tree) (nodes : List Node) → content_of nodes ≡ e.content → length nodes ≡ 0 → out ≡ old ++ chars (47 ∷ 62 ∷ []) → out ≡ old ++ rest_of_element e.name (is_empty e.content) (print_content e.content)
 bare_end old out e nodes same none h = h ∙ ap (λ (z : List ℕ). old ++ z) (letters_empty_end ∙ sym (ending_bare e.name (is_empty e.content) (print_content e.content) (no_nodes nodes e.content same none)))
 
-pub filled_end : (old begun inside out : List ℕ) (e : Tree) (nodes : List Node) (i : ℕ) → content_of nodes ≡ e.content → AreNormal nodes → (length nodes ≡ 0 → ⊥) → length nodes ≤ i → begun ≡ old ++ 62 ∷ []
+pub filled_end : (old begun inside out : List ℕ) (e : Tree) (nodes : List Node) (i : ℕ) → content_of nodes ≡ e.content → AreNormalized nodes → (length nodes ≡ 0 → ⊥) → length nodes ≤ i → begun ≡ old ++ 62 ∷ []
     → inside ++ print_content (content_of (drop i nodes)) ≡ begun ++ print_content (content_of nodes) → out ≡ inside ++ end_tag_text e.name → out ≡ old ++ rest_of_element e.name (is_empty e.content) (print_content e.content)
 filled_end old begun inside out e nodes i same normal some le b so_far h =
     let all : inside ≡ begun ++ print_content e.content = node_end inside (begun ++ print_content (content_of nodes)) nodes i le so_far ∙ ap (λ z. begun ++ print_content z) same in

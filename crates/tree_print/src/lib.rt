@@ -9,4 +9,4 @@ mod escapes;
 mod output;
 mod printing;
 
-pub use printing::{is_nothing, print_att_value, print_document, print_element};
+pub use printing::{is_empty_prefix, print_att_value, print_document, print_element};

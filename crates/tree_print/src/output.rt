@@ -73,5 +73,5 @@ fn push_encoded(string: &mut String, c: char) -> Result<(), AllocError>
 fn owned_bytes(string: String) -> Bytes
     ensures holds_bytes { result ≡ string_bytes string }
 {
-    Bytes::own(string.into_bytes())
+    Bytes::from_vec(string.into_bytes())
 }

@@ -5,13 +5,13 @@ ghost use Rattle.std.specs.Str.{bytes_eq};
 ghost use Rattle.xml_names.specs.Markup.{end_tag_text, xmlns_name, tag_front, print_attr};
 ghost use Rattle.xml_names.specs.Markup.{print_comment};
 ghost use Rattle.xml_names.specs.Markup.{print_decl, print_name, print_text, value_escape};
-ghost use Rattle.xml_names.specs.Markup.{quoted_text};
+ghost use Rattle.xml_names.specs.Markup.{quoted_value};
 ghost use Rattle.xml_tree.specs.Print.{rest_of_element, is_empty, print, print_content, header};
 ghost use Rattle.xml_tree.specs.Print.{document_print};
 ghost use Rattle.xml_tree.specs.inner.Print.{print_node};
 ghost use Rattle.tree_print.specs.AttributeBodyPrints.{body_escape, body_print};
 
-use crate::escapes::{Place, push_escaped};
+use crate::escapes::{EscapeContext, push_escaped};
 use crate::output::Output;
 use std::alloc::{AllocError, Global};
 use xcap_io::Bytes;
@@ -42,13 +42,13 @@ fn push_body_char(out: &mut Output, c: char) -> Result<(), AllocError>
 fn push_text(out: &mut Output, text: &str) -> Result<(), AllocError>
     ensures adds_text { OnOk result (out.new ≡ out.old ++ print_text (chars text.now)) }
 {
-    push_escaped(out, text, Place::Content)
+    push_escaped(out, text, EscapeContext::Content)
 }
 
 fn push_value(out: &mut Output, value: &str) -> Result<(), AllocError>
     ensures appended { OnOk result (out.new ≡ out.old ++ flat_map value_escape (chars value.now)) }
 {
-    push_escaped(out, value, Place::Quotes)
+    push_escaped(out, value, EscapeContext::Quotes)
 }
 
 fn push_body(out: &mut Output, value: &str) -> Result<(), AllocError>
@@ -62,8 +62,8 @@ fn push_body(out: &mut Output, value: &str) -> Result<(), AllocError>
 
 /// Appends `=` and a value in quotes.
 #[tactic(auto, using(crate::proofs::PrintLemmas::literals, crate::proofs::PrintLemmas::set_value))]
-fn push_set(out: &mut Output, value: &Text) -> Result<(), AllocError>
-    ensures appended { OnOk result (out.new ≡ out.old ++ 61 ∷ quoted_text value.now) }
+fn push_quoted_value(out: &mut Output, value: &Text) -> Result<(), AllocError>
+    ensures appended { OnOk result (out.new ≡ out.old ++ 61 ∷ quoted_value value.now) }
 {
     out.push_str("=\"")?;
     push_value(out, value.as_str())?;
@@ -72,7 +72,7 @@ fn push_set(out: &mut Output, value: &Text) -> Result<(), AllocError>
 
 /// Whether a prefix is empty.
 #[inline(always)]
-pub fn is_nothing(prefix: &Prefix) -> bool
+pub fn is_empty_prefix(prefix: &Prefix) -> bool
     ensures exact { result ≡ bytes_eq prefix.now [] }
 {
     prefix.is_empty()
@@ -82,7 +82,7 @@ pub fn is_nothing(prefix: &Prefix) -> bool
 fn push_name(out: &mut Output, name: &Name) -> Result<(), AllocError>
     ensures appended { OnOk result (out.new ≡ out.old ++ print_name name.now) }
 {
-    if is_nothing(&name.prefix) {
+    if is_empty_prefix(&name.prefix) {
         return out.push_str(name.local.as_str());
     }
     out.push_str(name.prefix.as_str())?;
@@ -92,10 +92,10 @@ fn push_name(out: &mut Output, name: &Name) -> Result<(), AllocError>
 
 /// Appends the name that declares a prefix.
 #[tactic(auto, using(crate::proofs::PrintLemmas::literals))]
-fn push_declaring(out: &mut Output, prefix: &Prefix) -> Result<(), AllocError>
+fn push_xmlns_name(out: &mut Output, prefix: &Prefix) -> Result<(), AllocError>
     ensures appended { OnOk result (out.new ≡ out.old ++ xmlns_name prefix.now) }
 {
-    if is_nothing(prefix) {
+    if is_empty_prefix(prefix) {
         return out.push_str("xmlns");
     }
     out.push_str("xmlns:")?;
@@ -108,8 +108,8 @@ fn push_decl(out: &mut Output, decl: &Decl) -> Result<(), AllocError>
     ensures adds_declaration { OnOk result (out.new ≡ out.old ++ print_decl decl.now) }
 {
     out.push(' ')?;
-    push_declaring(out, &decl.prefix)?;
-    push_set(out, &decl.uri)
+    push_xmlns_name(out, &decl.prefix)?;
+    push_quoted_value(out, &decl.uri)
 }
 
 #[tactic(auto, using(crate::proofs::PrintLemmas::three))]
@@ -118,7 +118,7 @@ fn push_attr(out: &mut Output, attr: &Attr) -> Result<(), AllocError>
 {
     out.push(' ')?;
     push_name(out, &attr.name)?;
-    push_set(out, &attr.value)
+    push_quoted_value(out, &attr.value)
 }
 
 fn push_decls(out: &mut Output, decls: &[Decl]) -> Result<(), AllocError>
@@ -140,7 +140,7 @@ fn push_attrs(out: &mut Output, attrs: &[Attr]) -> Result<(), AllocError>
 }
 
 /// Appends `<`, a name, declarations and attributes.
-fn push_opening(out: &mut Output, element: &Element) -> Result<(), AllocError>
+fn push_tag_front(out: &mut Output, element: &Element) -> Result<(), AllocError>
     ensures appended { OnOk result
         (out.new ≡ out.old ++ tag_front element.now.name element.now.decls element.now.attrs) }
 {
@@ -151,7 +151,7 @@ fn push_opening(out: &mut Output, element: &Element) -> Result<(), AllocError>
 }
 
 #[tactic(auto, using(crate::proofs::PrintLemmas::literals, crate::proofs::PrintLemmas::three))]
-fn push_closing(out: &mut Output, name: &Name) -> Result<(), AllocError>
+fn push_end_tag(out: &mut Output, name: &Name) -> Result<(), AllocError>
     ensures appended { OnOk result (out.new ≡ out.old ++ end_tag_text name.now) }
 {
     out.push_str("</")?;
@@ -182,7 +182,7 @@ fn push_node(out: &mut Output, node: &Node) -> Result<(), AllocError>
 
 /// Appends what follows the attributes of an element: `/>`, or `>`, its nodes and its end tag.
 #[cycle(print)]
-fn push_ending(out: &mut Output, element: &Element) -> Result<(), AllocError>
+fn push_rest_of_element(out: &mut Output, element: &Element) -> Result<(), AllocError>
     ensures appended { OnOk result
         (out.new ≡ out.old ++ rest_of_element element.now.name (is_empty element.now.content)
         (print_content element.now.content)) }
@@ -196,7 +196,7 @@ fn push_ending(out: &mut Output, element: &Element) -> Result<(), AllocError>
     for node in nodes {
         push_node(out, node)?;
     }
-    push_closing(out, element.name())?;
+    push_end_tag(out, element.name())?;
     Ok(())
 }
 
@@ -205,8 +205,8 @@ fn push_ending(out: &mut Output, element: &Element) -> Result<(), AllocError>
 fn push_element(out: &mut Output, element: &Element) -> Result<(), AllocError>
     ensures adds_element { OnOk result (out.new ≡ out.old ++ print element.now) }
 {
-    push_opening(out, element)?;
-    push_ending(out, element)
+    push_tag_front(out, element)?;
+    push_rest_of_element(out, element)
 }
 
 /// The print of an element: one of the texts that are read as it.

@@ -1,7 +1,7 @@
 -- Checking the names of a tag, from the first to the last.
 use Rattle.std.proofs.Common.{◌≡◌, Bool, true, false, cond, List, [], ◌∷◌, ◌++◌, refl, ap}
 use Rattle.tree_text.specs.declared.raw_attribute.RawAttribute.{RawAttribute}
-use Rattle.tree_text.specs.Names.{raw_attribute_attr, decls_of, attrs_of, raw_attribute_decl as decl_of, is_declaring as declares}
+use Rattle.tree_text.specs.Names.{raw_attribute_attr, decls_of, attrs_of, raw_attribute_decl as decl_of, is_xmlns_attr_name as declares}
 
 cons_or : {A : Type 0} (b : Bool) (x : A) (front last rest : List A) → rest ≡ front ++ last → cond b (x ∷ rest) rest ≡ cond b (x ∷ front) front ++ last
 cons_or {A} true x front last rest e = ap (λ (z : List A). x ∷ z) e

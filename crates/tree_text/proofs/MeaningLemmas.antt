@@ -16,9 +16,9 @@ use Rattle.tree_text.specs.declared.bindings.Bindings.{Bindings}
 use Rattle.tree_text.specs.declared.attribute_meanings.Meaning.{Meaning}
 use Rattle.tree_text.specs.declared.attribute_meanings.Meaning.TheVariants.{Declared, Named}
 use Rattle.tree_text.specs.declared.raw_attribute.RawAttribute.{RawAttribute}
-use Rattle.tree_text.specs.readers.Bindings.{AreOpenNamespaces, lists, number}
-use Rattle.tree_text.specs.readers.Meanings.{Means, Holds, has_meaning, attr_number, same_number}
-use Rattle.tree_text.specs.Names.{repeats_name, is_repeated, raw_attribute_decl as decl_of, is_declaring as declares}
+use Rattle.tree_text.specs.readers.Bindings.{AreOpenNamespaces, lists, namespace_number}
+use Rattle.tree_text.specs.readers.Meanings.{IsMeaningOf, HoldsMeaningsOf, has_meaning, attr_number, same_number}
+use Rattle.tree_text.specs.Names.{repeats_name, is_repeated, raw_attribute_decl as decl_of, is_xmlns_attr_name as declares}
 use Rattle.tree_text.proofs.NamespaceLemmas.{number_of, attrs_same}
 
 and_swap : (a b : Bool) → a && b ≡ b && a
@@ -45,20 +45,20 @@ bytes_eq-encodes a b = texts_ties (encode_utf8_all a) (encode_utf8_all b) ∙ ap
 
 module _ (here : Bindings) where
   -- another meaning compares as equal exactly when the two are the same
-  ties : (s : RawAttribute) (m q : Meaning) → Means here s m → is_eq (cmp-value.it m q) ≡ has_meaning here q s
+  ties : (s : RawAttribute) (m q : Meaning) → IsMeaningOf here s m → is_eq (cmp-value.it m q) ≡ has_meaning here q s
   ties s (Declared p) (Declared q) h = rw (h.0) (sym (texts_ties p.now q.now) ∙ ap (λ t. bytes_eq t q.now) h.1)
   ties s (Declared p) (Named l u) h = rw (h.0) refl
   ties s (Named l u) (Declared q) h = rw (h.0) refl
   ties s (Named l u) (Named k v) h =
       let locals = sym (texts_ties l.now k.now) ∙ ap (λ t. bytes_eq t k.now) h.1 in
-      let numbers = numbers_tie u v ∙ ap (λ n. same_number n v) (number_of (number here.namespaces) u (attr_name (lists here) s.name).uri h.2) in
+      let numbers = numbers_tie u v ∙ ap (λ n. same_number n v) (number_of (namespace_number here.namespaces) u (attr_name (lists here) s.name).uri h.2) in
       rw (h.0)
       (sym (tied_then (slice_cmp nat_cmp l.now k.now) (option_cmp nat_cmp u v))
       ∙ ap₂ (λ (a b : Bool). a && b) locals numbers
       ∙ and_swap (bytes_eq s.name.local k.now) (same_number (attr_number here s.name) v))
 
-  pub one_more : (es : List RawAttribute) (seen seen' : BTreeSet Meaning) (s : RawAttribute) (m : Meaning) → Holds here es seen → Means here s m
-      → Updates cmp-value.it seen seen' m true → Holds here (es ++ s ∷ []) seen'
+  pub one_more : (es : List RawAttribute) (seen seen' : BTreeSet Meaning) (s : RawAttribute) (m : Meaning) → HoldsMeaningsOf here es seen → IsMeaningOf here s m
+      → Updates cmp-value.it seen seen' m true → HoldsMeaningsOf here (es ++ s ∷ []) seen'
   one_more es seen seen' s m holds h up q =
       up.0 q
       ∙ ap₂ (λ (b c : Bool). cond b true c) (ties s m q h) (holds q)
@@ -67,20 +67,20 @@ module _ (here : Bindings) where
 
 module _ (here : Bindings) (kept : AreOpenNamespaces here) where
   -- a raw attribute has a meaning exactly when it means the same
-  same_is : (e s : RawAttribute) (m : Meaning) → Means here s m → has_meaning here m e ≡ repeats_name (lists here) s e
+  same_is : (e s : RawAttribute) (m : Meaning) → IsMeaningOf here s m → has_meaning here m e ≡ repeats_name (lists here) s e
   same_is e s (Declared p) h =
       rw (h.0)
       (ap (λ t. declares e.name && bytes_eq (encode_utf8_all (decl_of e).prefix) t) h.1
       ∙ ap (λ (b : Bool). declares e.name && b) (bytes_eq-encodes (decl_of e).prefix (decl_of s).prefix))
   same_is e s (Named l u) h =
-      let numbers = ap (same_number (attr_number here e.name)) (number_of (number here.namespaces) u (attr_name (lists here) s.name).uri h.2) ∙ attrs_same here kept e.name s.name in
+      let numbers = ap (same_number (attr_number here e.name)) (number_of (namespace_number here.namespaces) u (attr_name (lists here) s.name).uri h.2) ∙ attrs_same here kept e.name s.name in
       rw (h.0) (ap₂ (λ (a b : Bool). not (declares e.name) && (a && b)) numbers (ap (bytes_eq e.name.local) h.1))
 
-  any_is : (es : List RawAttribute) (s : RawAttribute) (m : Meaning) → Means here s m → list_any (has_meaning here m) es ≡ is_repeated (lists here) es s
+  any_is : (es : List RawAttribute) (s : RawAttribute) (m : Meaning) → IsMeaningOf here s m → list_any (has_meaning here m) es ≡ is_repeated (lists here) es s
   any_is [] s m h = refl
   any_is (e ∷ es) s m h = ap₂ (λ (a b : Bool). a || b) (same_is e s m h) (any_is es s m h)
 
   -- a set of the meanings of these finds exactly the repeated ones
-  pub found_is : (es : List RawAttribute) (seen : BTreeSet Meaning) (s : RawAttribute) (m : Meaning) → Holds here es seen → Means here s m
+  pub found_is : (es : List RawAttribute) (seen : BTreeSet Meaning) (s : RawAttribute) (m : Meaning) → HoldsMeaningsOf here es seen → IsMeaningOf here s m
       → contains cmp-value.it seen m ≡ is_repeated (lists here) es s
   found_is es seen s m holds h = holds m ∙ any_is es s m h

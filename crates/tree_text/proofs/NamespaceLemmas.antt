@@ -8,10 +8,10 @@ use Rattle.std.specs.Option.{option_or}
 use Rattle.std.specs.Str.{bytes_eq}
 use Rattle.std.proofs.lemmas.Bool.{eqb-true, eq-eqb}
 use Rattle.xml_names.specs.ExpandedNames.{attr_name, same_uri}
-use Rattle.xml_names.specs.Scopes.{bound, declared_uri, joined, some_text, xml_prefix, xml_uri}
+use Rattle.xml_names.specs.Scopes.{bound_uri, declared_uri, scope_decls, non_empty_uri, xml_prefix, xml_uri}
 use Rattle.xml_names.specs.declared.names.Decl.{Decl}
 use Rattle.xml_names.specs.declared.names.Name.{Name}
-use Rattle.tree_text.specs.readers.Bindings.{AreOpenNamespaces, lists, number, stack, uris}
+use Rattle.tree_text.specs.readers.Bindings.{AreOpenNamespaces, lists, namespace_number, declared_numbers, declared_uris}
 use Rattle.tree_text.specs.readers.Meanings.{attr_number, same_number}
 use Rattle.tree_text.specs.declared.bindings.Bindings.{Bindings}
 
@@ -31,11 +31,11 @@ module _ (num : List ℕ → Option ℕ) where
   uri_has true u us o [] ih h = absurd (cc)
   uri_has true u us o (n ∷ ns) ih h = nearest_has o (Some u) (ih ns (cc)) (n, cc)
 
-  declared_has : (ds : List Decl) (p ns : List ℕ) → map num (uris ds p) ≡ map Some ns → HasNumber (declared_uri ds p)
+  declared_has : (ds : List Decl) (p ns : List ℕ) → map num (declared_uris ds p) ≡ map Some ns → HasNumber (declared_uri ds p)
   declared_has [] p ns h = tt
-  declared_has (d ∷ ds) p ns h = uri_has (bytes_eq d.prefix p) d.uri (uris ds p) (declared_uri ds p) ns (declared_has ds p) h
+  declared_has (d ∷ ds) p ns h = uri_has (bytes_eq d.prefix p) d.uri (declared_uris ds p) (declared_uri ds p) ns (declared_has ds p) h
 
-  text_has : (o : Option (List ℕ)) → HasNumber o → HasNumber (some_text o)
+  text_has : (o : Option (List ℕ)) → HasNumber o → HasNumber (non_empty_uri o)
   text_has None h = tt
   text_has (Some []) h = tt
   text_has (Some (c ∷ cs)) h = h
@@ -66,16 +66,16 @@ module _ (num : List ℕ → Option ℕ) where
       (λ e. eq-eqb h.0 k.0 (one_number u v h.0 k.0 h.1 k.1 ((bytes_decides u v).0 e))))
 
 module _ (here : Bindings) (kept : AreOpenNamespaces here) where
-  bound_has : (p : List ℕ) → HasNumber (number here.namespaces) (bound (lists here) p)
+  bound_has : (p : List ℕ) → HasNumber (namespace_number here.namespaces) (bound_uri (lists here) p)
   bound_has p =
-      let num = number here.namespaces in
-      either_has num (bytes_eq p xml_prefix) (Some xml_uri) (some_text (declared_uri (joined (lists here)) p)) (here.namespaces.xml, kept.xml)
-      (text_has num (declared_uri (joined (lists here)) p) (declared_has num (joined (lists here)) p (stack here.namespaces p) (kept.declared p)))
+      let num = namespace_number here.namespaces in
+      either_has num (bytes_eq p xml_prefix) (Some xml_uri) (non_empty_uri (declared_uri (scope_decls (lists here)) p)) (here.namespaces.xml, kept.xml)
+      (text_has num (declared_uri (scope_decls (lists here)) p) (declared_has num (scope_decls (lists here)) p (declared_numbers here.namespaces p) (kept.declared p)))
 
-  attr_has : (n : Name) → HasNumber (number here.namespaces) (attr_name (lists here) n).uri
-  attr_has n = either_has (number here.namespaces) (bytes_eq n.prefix []) None (bound (lists here) n.prefix) tt (bound_has n.prefix)
+  attr_has : (n : Name) → HasNumber (namespace_number here.namespaces) (attr_name (lists here) n).uri
+  attr_has n = either_has (namespace_number here.namespaces) (bytes_eq n.prefix []) None (bound_uri (lists here) n.prefix) tt (bound_has n.prefix)
 
   -- two attributes have the same number exactly when they have the same namespace
   pub attrs_same : (m n : Name) → same_number (attr_number here m) (attr_number here n) ≡ same_uri (attr_name (lists here) m).uri (attr_name (lists here) n).uri
   attrs_same m n =
-      numbers_same (number here.namespaces) kept.numbers.apart (attr_name (lists here) m).uri (attr_name (lists here) n).uri (attr_has m) (attr_has n)
+      numbers_same (namespace_number here.namespaces) kept.numbers.apart (attr_name (lists here) m).uri (attr_name (lists here) n).uri (attr_has m) (attr_has n)

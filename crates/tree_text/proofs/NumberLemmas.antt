@@ -10,9 +10,9 @@ use Rattle.std.specs.Option.{is_some}
 use Rattle.std.specs.Prelude.{if◌then◌else◌}
 use Rattle.xml_names.specs.Scopes.{xml_uri}
 use Rattle.xml_names.specs.declared.names.Decl.{Decl}
-use Rattle.tree_text.specs.readers.Bindings.{AreNumbers, AreOf, at_text, number, numbers_at, stack, uris}
+use Rattle.tree_text.specs.readers.Bindings.{IsNumbering, RepresentsDecls, value_at_text, namespace_number, prefix_numbers, declared_numbers, declared_uris}
 use Rattle.tree_text.specs.declared.namespaces.Namespaces.{Namespaces}
-use Rattle.tree_text.proofs.StackLemmas.{uris-append}
+use Rattle.tree_text.proofs.StackLemmas.{declared_uris-append}
 
 -- a text that had no number gets the number n
 module _ (f g : List ℕ → Option ℕ) (k : List ℕ) (n : ℕ) (new : f k ≡ None) (adds : (q : List ℕ) → g q ≡ cond (bytes_eq k q) (Some n) (f q)) where
@@ -50,37 +50,37 @@ module _ (f g : List ℕ → Option ℕ) (k : List ℕ) (n : ℕ) (new : f k ≡
         by false a false b = were u v m (sym (adds_there u a) ∙ here) (sym (adds_there v b) ∙ there)
 
 -- a map into which such a text was inserted with its number
-module _ (m m' : BTreeMap (List ℕ) ℕ) (k : List ℕ) (n : ℕ) (new : at_text m k ≡ None) (up : Updates (slice_cmp nat_cmp) m m' k (Some n)) where
-  found_after : (q : List ℕ) → at_text m' q ≡ cond (bytes_eq k q) (Some n) (at_text m q)
-  found_after q = up.0 q ∙ ap (λ b. cond b (Some n) (at_text m q)) (is_eq-slice_cmp k q)
+module _ (m m' : BTreeMap (List ℕ) ℕ) (k : List ℕ) (n : ℕ) (new : value_at_text m k ≡ None) (up : Updates (slice_cmp nat_cmp) m m' k (Some n)) where
+  found_after : (q : List ℕ) → value_at_text m' q ≡ cond (bytes_eq k q) (Some n) (value_at_text m q)
+  found_after q = up.0 q ∙ ap (λ b. cond b (Some n) (value_at_text m q)) (is_eq-slice_cmp k q)
 
-  pub numbers-insert-grown : (u : List ℕ) (x : ℕ) → at_text m u ≡ Some x → at_text m' u ≡ Some x
-  numbers-insert-grown = numbers_stay (at_text m) (at_text m') k n new found_after
+  pub numbers-insert-grown : (u : List ℕ) (x : ℕ) → value_at_text m u ≡ Some x → value_at_text m' u ≡ Some x
+  numbers-insert-grown = numbers_stay (value_at_text m) (value_at_text m') k n new found_after
 
-  pub AreNumbers-insert : (old : Option ℕ) → old ≡ at_text m k → n ≡ btree_map_len m → btree_map_len m' ≡ btree_map_len m + (if is_some old then 0 else 1) → AreNumbers m → AreNumbers m'
+  pub AreNumbers-insert : (old : Option ℕ) → old ≡ value_at_text m k → n ≡ btree_map_len m → btree_map_len m' ≡ btree_map_len m + (if is_some old then 0 else 1) → IsNumbering m → IsNumbering m'
   AreNumbers-insert old was is more are = record {
-    apart = still_apart (at_text m) (at_text m') k n new found_after below are.apart;
-    small = λ u x h. subst (λ l. x < l) (sym longer) (all_below (at_text m) (at_text m') k n new found_after below u x h);
+    apart = still_apart (value_at_text m) (value_at_text m') k n new found_after below are.apart;
+    small = λ u x h. subst (λ l. x < l) (sym longer) (all_below (value_at_text m) (value_at_text m') k n new found_after below u x h);
   }
     where
-      below : (u : List ℕ) (x : ℕ) → at_text m u ≡ Some x → x < n
+      below : (u : List ℕ) (x : ℕ) → value_at_text m u ≡ Some x → x < n
       below u x h = subst (λ l. x < l) (sym is) (are.small u x h)
 
       longer : btree_map_len m' ≡ n + 1
       longer = more ∙ ap (λ o. btree_map_len m + (if is_some o then 0 else 1)) (was ∙ new) ∙ ap (λ l. l + 1) (sym is)
 
 -- ---- nothing is declared
-nothing_at : {X : Type 0} (m : BTreeMap (List ℕ) X) → m.entries ≡ [] → (u : List ℕ) → at_text m u ≡ None
+nothing_at : {X : Type 0} (m : BTreeMap (List ℕ) X) → m.entries ≡ [] → (u : List ℕ) → value_at_text m u ≡ None
 nothing_at m empty u = rw empty refl
 
-pub AreNumbers-empty : (m : BTreeMap (List ℕ) ℕ) → m.entries ≡ [] → AreNumbers m
+pub AreNumbers-empty : (m : BTreeMap (List ℕ) ℕ) → m.entries ≡ [] → IsNumbering m
 AreNumbers-empty m empty = record {
   apart = λ u v n h g. let no = nothing_at m empty u in cc;
   small = λ u n h. let no = nothing_at m empty u in cc;
 }
 
-pub numbers_at-empty : (m : BTreeMap (List ℕ) (Vec ℕ)) → m.entries ≡ [] → (p : List ℕ) → numbers_at m p ≡ []
-numbers_at-empty m empty p = rw (nothing_at m empty p) refl
+pub prefix_numbers-empty : (m : BTreeMap (List ℕ) (Vec ℕ)) → m.entries ≡ [] → (p : List ℕ) → prefix_numbers m p ≡ []
+prefix_numbers-empty m empty p = rw (nothing_at m empty p) refl
 
 -- ---- one more declaration
 -- texts that have numbers keep them
@@ -98,18 +98,18 @@ map_one g true u n is = ap (λ (x : Option ℕ). x ∷ []) is
 map_one g false u n is = refl
 
 -- s' has one more declaration than s, whose URI has the number n
-module _ (s s' : Namespaces) (ds : List Decl) (d : Decl) (n : ℕ) (are : AreOf s ds) (found : number s' d.uri ≡ Some n)
-    (grown : (u : List ℕ) (x : ℕ) → number s u ≡ Some x → number s' u ≡ Some x)
-    (pushed : (p : List ℕ) → stack s' p ≡ stack s p ++ (if bytes_eq d.prefix p then n ∷ [] else [])) where
-  declared_then : (p : List ℕ) → map (number s') (uris (ds ++ d ∷ []) p) ≡ map Some (stack s' p)
+module _ (s s' : Namespaces) (ds : List Decl) (d : Decl) (n : ℕ) (are : RepresentsDecls s ds) (found : namespace_number s' d.uri ≡ Some n)
+    (grown : (u : List ℕ) (x : ℕ) → namespace_number s u ≡ Some x → namespace_number s' u ≡ Some x)
+    (pushed : (p : List ℕ) → declared_numbers s' p ≡ declared_numbers s p ++ (if bytes_eq d.prefix p then n ∷ [] else [])) where
+  declared_then : (p : List ℕ) → map (namespace_number s') (declared_uris (ds ++ d ∷ []) p) ≡ map Some (declared_numbers s' p)
   declared_then p =
-      ap (map (number s')) (uris-append ds (d ∷ []) p)
-      ∙ map-append (number s') (uris ds p) (if bytes_eq d.prefix p then d.uri ∷ [] else [])
-      ∙ ap₂ (λ (xs ys : List (Option ℕ)). xs ++ ys) (kept_numbers (number s) (number s') grown (uris ds p) (stack s p) (are.declared p)) (map_one (number s') (bytes_eq d.prefix p) d.uri n found)
-      ∙ sym (map-append Some (stack s p) (if bytes_eq d.prefix p then n ∷ [] else []))
+      ap (map (namespace_number s')) (declared_uris-append ds (d ∷ []) p)
+      ∙ map-append (namespace_number s') (declared_uris ds p) (if bytes_eq d.prefix p then d.uri ∷ [] else [])
+      ∙ ap₂ (λ (xs ys : List (Option ℕ)). xs ++ ys) (kept_numbers (namespace_number s) (namespace_number s') grown (declared_uris ds p) (declared_numbers s p) (are.declared p)) (map_one (namespace_number s') (bytes_eq d.prefix p) d.uri n found)
+      ∙ sym (map-append Some (declared_numbers s p) (if bytes_eq d.prefix p then n ∷ [] else []))
       ∙ ap (map Some) (sym (pushed p))
 
-  pub AreOf-declare : AreNumbers s'.numbers → s'.none ≡ s.none → s'.xml ≡ s.xml → AreOf s' (ds ++ d ∷ [])
+  pub AreOf-declare : IsNumbering s'.numbers → s'.none ≡ s.none → s'.xml ≡ s.xml → RepresentsDecls s' (ds ++ d ∷ [])
   AreOf-declare numbers none xml = record {
     numbers = numbers;
     none = grown [] s.none are.none ∙ ap Some (sym none);

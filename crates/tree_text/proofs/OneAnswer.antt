@@ -11,19 +11,19 @@ use Rattle.tree_text.specs.declared.fault.TextFault.TheVariants as texts
 use Rattle.tree_text.specs.declared.fault.ValueFault.{ValueFault}
 use Rattle.xml_tokens.specs.declared.fault_kind.FaultKind.{FaultKind}
 use Rattle.xml_tokens.specs.declared.fault_kind.FaultKind.TheVariants.{Encoded, Doctyped, Depth, Unbound, Repeated}
-use Rattle.tree_text.specs.FaultKinds.{faults, rank}
-use Rattle.tree_text.specs.Grammar.{document, spelling}
-use Rattle.xml_tokens.specs.Places.{byte_at}
-use Rattle.tree_text.specs.Faults.{stop_fault, TextAnswer, spelling_of, body_result, BodyAnswer, text_result as told}
+use Rattle.tree_text.specs.FaultKinds.{fault_ranking, rank}
+use Rattle.tree_text.specs.Grammar.{document, unquoted_value}
+use Rattle.xml_tokens.specs.ByteOffsets.{byte_offset}
+use Rattle.tree_text.specs.Faults.{stop_fault, IsTextResult, unquoted_body, body_result, IsBodyResult, text_result as told}
 
 -- the fault of a rank
 by_rank : List ℕ → List ℕ → ℕ → TextFault
 by_rank bytes left n =
-    if n == 0 then texts.TooDeep (byte_at bytes left)
-    else if n == 1 then texts.Namespace (byte_at bytes left)
-    else if n == 2 then texts.RepeatedAttribute (byte_at bytes left)
+    if n == 0 then texts.TooDeep (byte_offset bytes left)
+    else if n == 1 then texts.Namespace (byte_offset bytes left)
+    else if n == 2 then texts.RepeatedAttribute (byte_offset bytes left)
     else if n == 3 then texts.NotUtf8
-    else texts.Doctype (byte_at bytes left)
+    else texts.Doctype (byte_offset bytes left)
 
 ranked : (bytes left : List ℕ) (kind : FaultKind) → stop_fault bytes (Faulty kind left) ≡ by_rank bytes left (rank kind)
 unfolding by_rank
@@ -37,20 +37,20 @@ ranked bytes left Repeated = refl
 alike : (bytes : List ℕ) (kind other : FaultKind) (left : List ℕ) → rank kind ≡ rank other → told bytes (Err (Faulty kind left)) ≡ told bytes (Err (Faulty other left))
 alike bytes kind other left same = ap (λ (z : TextFault). let r : Result Tree TextFault = Err z in r) (ranked bytes left kind ∙ ap (by_rank bytes left) same ∙ sym (ranked bytes left other))
 
-pub one_text : (limit : ℕ) (scope : List (List Decl)) (bytes : List ℕ) (a b : Result Tree TextFault) → TextAnswer limit scope bytes a → TextAnswer limit scope bytes b → a ≡ b
+pub one_text : (limit : ℕ) (scope : List (List Decl)) (bytes : List ℕ) (a b : Result Tree TextFault) → IsTextResult limit scope bytes a → IsTextResult limit scope bytes b → a ≡ b
 one_text limit scope bytes a b (inl x) (inl y) =
     x.1.is_told
-    ∙ told_alike (faults limit) (document (suc (limit + 1)) scope) (chars bytes) (told bytes) (λ kind other left k o same. alike bytes kind other left same) x.1.stated y.1.stated
+    ∙ told_alike (fault_ranking limit) (document (suc (limit + 1)) scope) (chars bytes) (told bytes) (λ kind other left k o same. alike bytes kind other left same) x.1.stated y.1.stated
     (x.1.by_grammar (suc (limit + 1)) (omega arith)) (y.1.by_grammar (suc (limit + 1)) (omega arith))
     ∙ sym y.1.is_told
 one_text limit scope bytes a b (inl x) (inr y) = absurd (y.0 x.0)
 one_text limit scope bytes a b (inr x) (inl y) = absurd (x.0 y.0)
 one_text limit scope bytes a b (inr x) (inr y) = x.1 ∙ sym y.1
 
-pub one_body : (bytes : List ℕ) (a b : Result (List ℕ) ValueFault) → BodyAnswer bytes a → BodyAnswer bytes b → a ≡ b
+pub one_body : (bytes : List ℕ) (a b : Result (List ℕ) ValueFault) → IsBodyResult bytes a → IsBodyResult bytes b → a ≡ b
 one_body bytes a b (inl x) (inl y) =
     x.1.is_told
-    ∙ told_alike (faults 0) spelling (spelling_of (chars bytes)) (body_result (chars bytes) bytes) (λ kind other left k o same. refl) x.1.stated y.1.stated x.1.by_grammar y.1.by_grammar
+    ∙ told_alike (fault_ranking 0) unquoted_value (unquoted_body (chars bytes)) (body_result (chars bytes) bytes) (λ kind other left k o same. refl) x.1.stated y.1.stated x.1.by_grammar y.1.by_grammar
     ∙ sym y.1.is_told
 one_body bytes a b (inl x) (inr y) = absurd (y.0 x.0)
 one_body bytes a b (inr x) (inl y) = absurd (x.0 y.0)

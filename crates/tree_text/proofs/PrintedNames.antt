@@ -3,16 +3,16 @@ use Rattle.std.proofs.Common.{◌≡◌, ℕ, Bool, true, false, List, [], ◌�
 use Rattle.std.specs.Prelude.{◌==◌, None, Some}
 use Rattle.std.specs.List.{list_all}
 use Rattle.xml_grammar.specs.Rules.{AllPass}
-use Rattle.xml_grammar.specs.TextReading.{head_is, read_run, read_valued, read_word}
-use Rattle.xml_grammar.specs.readers.Functions.{read_empty, read_after, read_quoted}
+use Rattle.xml_grammar.specs.TextReading.{first_char_is, read_run, read_mapped, read_word}
+use Rattle.xml_grammar.specs.readers.RuleReaders.{read_empty, read_second, read_quoted}
 use Rattle.xml_names.specs.Characters.{is_char, is_space, is_name_start, is_name_char, is_name}
-use Rattle.xml_names.specs.Markup.{xmlns_name, print_attr, print_decl, print_name, value_escape, quoted_text as quoted}
+use Rattle.xml_names.specs.Markup.{xmlns_name, print_attr, print_decl, print_name, value_escape, quoted_value as quoted}
 use Rattle.xml_tree.specs.Proper.{is_prefix}
 use Rattle.xml_names.specs.Scopes.{xmlns_prefix}
 use Rattle.xml_names.specs.declared.names.Name.{Name}
 use Rattle.xml_names.specs.declared.names.Decl.{Decl}
 use Rattle.xml_names.specs.declared.names.Attr.{Attr}
-use Rattle.xml_tokens.specs.readers.Words.{colon}
+use Rattle.xml_tokens.specs.readers.Literals.{colon}
 use Rattle.tree_text.specs.declared.raw_attribute.RawAttribute.{RawAttribute}
 use Rattle.xml_tokens.specs.Tokens.{is_quote}
 use Rattle.xml_tokens.specs.Values.{qname_of}
@@ -30,9 +30,9 @@ all_pass p (c ∷ cs) h = let k = both (p c) (list_all p cs) h in (k.0, all_pass
 
 -- no character that would continue a name is here
 abbrev pub EndsName : List ℕ → Type 0
-EndsName rest = (head_is is_name_char rest ≡ false) × (colon_follows rest ≡ false)
+EndsName rest = (first_char_is is_name_char rest ≡ false) × (colon_follows rest ≡ false)
 
-reads_name : (n rest : List ℕ) → is_name n ≡ true → head_is is_name_char rest ≡ false → Reads read_name (n ++ rest) n rest
+reads_name : (n rest : List ℕ) → is_name n ≡ true → first_char_is is_name_char rest ≡ false → Reads read_name (n ++ rest) n rest
 reads_name [] rest h e = absurd cc
 reads_name (c ∷ cs) rest h e = let k = both (is_name_start c) (list_all is_name_char cs) h in reads_name_of is_name_start is_name_char c cs rest k.0 (all_pass is_name_char cs k.1) e
 
@@ -42,7 +42,7 @@ pub record IsWritten (n : Name) : Type 0 where
   pub local : is_name n.local ≡ true
 
 qname_by : (p l rest : List ℕ) → is_prefix p ≡ true → is_name l ≡ true → EndsName rest → Reads read_qname (print_name (record { prefix = p; local = l }) ++ rest) (record { prefix = p; local = l }) rest
-qname_by [] l rest h k e = reads_valued qname_of (reads_sequence _ (reads_name l rest k e.0) (reads_right colon_follows (read_valued Some (read_after (read_word colon) read_name)) e.1 (record { read = refl })))
+qname_by [] l rest h k e = reads_valued qname_of (reads_sequence _ (reads_name l rest k e.0) (reads_right colon_follows (read_mapped Some (read_second (read_word colon) read_name)) e.1 (record { read = refl })))
 qname_by (c ∷ cs) l rest h k e =
     let name_first : Reads read_name ((c ∷ cs) ++ 58 ∷ (l ++ rest)) (c ∷ cs) (58 ∷ (l ++ rest)) = reads_name (c ∷ cs) (58 ∷ (l ++ rest)) h refl in
     let behind_colon = reads_behind (reads_word colon (l ++ rest)) (reads_name l rest k e.0) in
@@ -88,11 +88,11 @@ not_space d h = by (d == 0x20) refl (d == 0x9) refl (d == 0xD) refl (d == 0xA) r
 reads_attribute : (a : Attr) (rest : List ℕ) → IsPrinted a → Reads read_attribute ((print_name a.name ++ 61 ∷ quoted a.value) ++ rest) (a.name, a.value) rest
 reads_attribute a rest p =
     let value = reads_value a.value rest p.value in
-    let in_quotes = reads_quoted is_quote read_value 34 refl value in
+    let strip_quotes = reads_quoted is_quote read_value 34 refl value in
     let equals : Reads read_equals (61 ∷ (34 ∷ (flat_map value_escape a.value ++ 34 ∷ rest))) [] (34 ∷ (flat_map value_escape a.value ++ 34 ∷ rest)) = record { read = refl } in
-    let after = reads_behind equals in_quotes in
+    let after = reads_behind equals strip_quotes in
     let name = reads_qname a.name (61 ∷ (34 ∷ (flat_map value_escape a.value ++ 34 ∷ rest))) p.name (refl, refl) in
-    let all = reads_sequence (λ _. read_after read_equals (read_quoted is_quote read_value)) name after in
+    let all = reads_sequence (λ _. read_second read_equals (read_quoted is_quote read_value)) name after in
     let quotes : 61 ∷ (quoted a.value ++ rest) ≡ 61 ∷ (34 ∷ (flat_map value_escape a.value ++ 34 ∷ rest)) = ap (λ (z : List ℕ). 61 ∷ (34 ∷ z)) (append_assoc (flat_map value_escape a.value) (34 ∷ []) rest) in
     let text : (print_name a.name ++ 61 ∷ quoted a.value) ++ rest ≡ print_name a.name ++ 61 ∷ (34 ∷ (flat_map value_escape a.value ++ 34 ∷ rest)) = append_assoc (print_name a.name) (61 ∷ quoted a.value) rest ∙ ap (λ (z : List ℕ). print_name a.name ++ z) quotes in
     subst (λ (z : List ℕ). Reads read_attribute z (a.name, a.value) rest) (sym text) all
@@ -106,10 +106,10 @@ words_head a rest p =
     let m = printed_head a.name (61 ∷ quoted a.value ++ rest) p.name in
     (m.0, m.1, append_assoc (print_name a.name) (61 ∷ quoted a.value) rest ∙ m.2, m.3)
 
-space_then : (text : List ℕ) (d : ℕ) (y : List ℕ) → text ≡ d ∷ y → is_name_start d ≡ true → (head_is is_space text ≡ false) × (raw_attribute_follows (32 ∷ text) ≡ true)
+space_then : (text : List ℕ) (d : ℕ) (y : List ℕ) → text ≡ d ∷ y → is_name_start d ≡ true → (first_char_is is_space text ≡ false) × (raw_attribute_follows (32 ∷ text) ≡ true)
 space_then text d y e h =
     let s = not_space d h in
-    (ap (head_is is_space) e ∙ s, ap (λ (z : List ℕ). raw_attribute_follows (32 ∷ z)) e ∙ rw s h)
+    (ap (first_char_is is_space) e ∙ s, ap (λ (z : List ℕ). raw_attribute_follows (32 ∷ z)) e ∙ rw s h)
 
 reads_said : (a : Attr) (rest : List ℕ) → IsPrinted a → Reads read_raw_attribute (print_attr a ++ rest) (said_from a) rest
 reads_said a rest p =

@@ -5,11 +5,11 @@ use Rattle.std.specs.List.{list_all, AllByRecursion}
 use Rattle.std.proofs.lemmas.Bool.Decides.{nat_tests}
 use lib.Utf8.{scalar, scalars}
 use Rattle.xml_names.specs.Characters.{is_char, is_name_start, is_name_char, is_name}
-use Rattle.xml_names.specs.Comments.{is_kept_char, hyphens_apart, is_comment}
-use Rattle.xml_names.specs.Markup.{tag_front, end_tag_text, print_attr, print_comment, print_decl, print_name, print_text, text_escape, value_escape, quoted_text as quoted}
+use Rattle.xml_names.specs.Comments.{is_comment_char, has_no_double_hyphen, is_comment}
+use Rattle.xml_names.specs.Markup.{tag_front, end_tag_text, print_attr, print_comment, print_decl, print_name, print_text, text_escape, value_escape, quoted_value as quoted}
 use Rattle.xml_tree.specs.Print.{rest_of_element, is_empty, print, print_content, header, document_print}
-use Rattle.xml_tree.specs.Proper.{is_prefix, IsTag, ProperIn}
-use Rattle.xml_tree.specs.inner.Proper.{Proper}
+use Rattle.xml_tree.specs.Proper.{is_prefix, IsProperTag, IsProperTree}
+use Rattle.xml_tree.specs.inner.Proper.{IsProperContent}
 use Rattle.xml_tree.specs.Tree.{Content, last, more, comment_node, Tree}
 use Rattle.xml_names.specs.declared.names.Name.{Name}
 use Rattle.xml_names.specs.declared.names.Decl.{Decl}
@@ -108,7 +108,7 @@ attrs_scalars : (ats : List Attr) → ArePrinted ats → scalars (flat_map print
 attrs_scalars [] h = refl
 attrs_scalars (a ∷ ats) h = scalars-append (print_attr a) (flat_map print_attr ats) (attr_scalars a h.0) (attrs_scalars ats h.1)
 
-opening_scalars : (here : List (List Decl)) (n : Name) (ds : List Decl) (ats : List Attr) → IsTag here n ds ats → scalars (tag_front n ds ats) ≡ true
+opening_scalars : (here : List (List Decl)) (n : Name) (ds : List Decl) (ats : List Attr) → IsProperTag here n ds ats → scalars (tag_front n ds ats) ≡ true
 opening_scalars here n ds ats h =
     let attrs = ap scalars (as_attrs ds ats) ∙ attrs_scalars (map attr_for ds ++ ats) (printed_all here ds ats h.declarations h.attributes) in
     scalars-append (print_name n) (flat_map print_decl ds ++ flat_map print_attr ats) (qname_scalars n.prefix n.local h.named.prefix h.named.local) attrs
@@ -120,32 +120,32 @@ ending_scalars : (n : Name) (empty : Bool) (inside : List ℕ) → scalars (prin
 ending_scalars n true inside h k = refl
 ending_scalars n false inside h k = scalars-append inside (end_tag_text n) k (closing_scalars n h)
 
-elem_scalars : (here : List (List Decl)) (n : Name) (ds : List Decl) (ats : List Attr) (empty : Bool) (inside : List ℕ) → IsTag here n ds ats → scalars inside ≡ true → scalars (tag_front n ds ats ++ rest_of_element n empty inside) ≡ true
+elem_scalars : (here : List (List Decl)) (n : Name) (ds : List Decl) (ats : List Attr) (empty : Bool) (inside : List ℕ) → IsProperTag here n ds ats → scalars inside ≡ true → scalars (tag_front n ds ats ++ rest_of_element n empty inside) ≡ true
 elem_scalars here n ds ats empty inside h k = scalars-append (tag_front n ds ats) (rest_of_element n empty inside) (opening_scalars here n ds ats h) (ending_scalars n empty inside (qname_scalars n.prefix n.local h.named.prefix h.named.local) k)
 
 -- ---- content
 
-kept_char : (c : ℕ) → is_kept_char c ≡ true → scalar c ≡ true
+kept_char : (c : ℕ) → is_comment_char c ≡ true → scalar c ≡ true
 kept_char c h = scalar_char c (both (is_char c) (not (c == 13)) h).0
 
 comment_scalars : (x : List ℕ) → is_comment x ≡ true → scalars (print_comment x) ≡ true
-comment_scalars x h = scalars-append x (45 ∷ 45 ∷ 62 ∷ []) (all_scalars is_kept_char kept_char x (both (list_all is_kept_char x) (hyphens_apart x) h).0) refl
+comment_scalars x h = scalars-append x (45 ∷ 45 ∷ 62 ∷ []) (all_scalars is_comment_char kept_char x (both (list_all is_comment_char x) (has_no_double_hyphen x) h).0) refl
 
 letters : (t : List ℕ) → AllByRecursion (λ (c : ℕ). is_char c ≡ true) t → scalars (print_text t) ≡ true
 letters [] h = refl
 letters (c ∷ t) h = scalars-append (text_escape c) (print_text t) (text_scalars c h.0) (letters t h.1)
 
-content_scalars : (scope : List (List Decl)) (k : Content) → Proper scope k → scalars (print_content k) ≡ true
+content_scalars : (scope : List (List Decl)) (k : Content) → IsProperContent scope k → scalars (print_content k) ≡ true
 content_scalars scope (last t) h = letters t h
 content_scalars scope (more t n ds ats k rest) h =
     scalars-append (print_text t) _ (letters t h.0) (scalars-append (tag_front n ds ats ++ rest_of_element n (is_empty k) (print_content k)) (print_content rest)
     (elem_scalars (scope ++ ds ∷ []) n ds ats (is_empty k) (print_content k) h.1 (content_scalars (scope ++ ds ∷ []) k h.2)) (content_scalars scope rest h.3))
 content_scalars scope (comment_node t x rest) h = scalars-append (print_text t) _ (letters t h.0) (scalars-append (print_comment x) (print_content rest) (comment_scalars x h.1) (content_scalars scope rest h.2))
 
-pub print_scalars : (scope : List (List Decl)) (e : Tree) → ProperIn scope e → scalars (print e) ≡ true
+pub print_scalars : (scope : List (List Decl)) (e : Tree) → IsProperTree scope e → scalars (print e) ≡ true
 print_scalars scope e h = elem_scalars (scope ++ e.decls ∷ []) e.name e.decls e.attrs (is_empty e.content) (print_content e.content) h.0 (content_scalars (scope ++ e.decls ∷ []) e.content h.1)
 
-pub document_scalars : (scope : List (List Decl)) (e : Tree) → ProperIn scope e → scalars (document_print e) ≡ true
+pub document_scalars : (scope : List (List Decl)) (e : Tree) → IsProperTree scope e → scalars (document_print e) ≡ true
 document_scalars scope e h = scalars-append header (print e) refl (print_scalars scope e h)
 
 pub body_print_scalars : (value : List ℕ) → list_all is_char value ≡ true → scalars (body_print value) ≡ true

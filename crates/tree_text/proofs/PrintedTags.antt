@@ -10,21 +10,21 @@ use Rattle.std.proofs.lemmas.Map.Keys.{IsDistinct-head, IsDistinct-tail}
 use Rattle.xml_names.specs.Characters.{is_char, is_space}
 use Rattle.xml_names.specs.ExpandedNames.{ExpandedName, attr_name, same_expanded}
 use Rattle.xml_names.specs.Markup.{tag_front, print_attr, print_name}
-use Rattle.xml_tree.specs.Proper.{is_declaration, is_prefix, may_stand, IsAttribute, IsNamed, IsTag}
-use Rattle.xml_names.specs.Scopes.{bound, declared_uri, joined, some_text, xmlns_prefix}
+use Rattle.xml_tree.specs.Proper.{is_proper_decl, is_prefix, is_allowed_decl, IsProperAttr, IsProperName, IsProperTag}
+use Rattle.xml_names.specs.Scopes.{bound_uri, declared_uri, scope_decls, non_empty_uri, xmlns_prefix}
 use Rattle.xml_names.specs.declared.names.Name.{Name}
 use Rattle.xml_names.specs.declared.names.Decl.{Decl}
 use Rattle.xml_names.specs.declared.names.Attr.{Attr}
-use Rattle.xml_tree.proofs.ScopesAlike.{bound-inner}
+use Rattle.xml_tree.proofs.ScopesAlike.{bound_uri-inner}
 use Rattle.xml_grammar.specs.TextReading.{Reader}
-use Rattle.xml_grammar.specs.readers.Functions.{read_judged}
-use Rattle.xml_tokens.specs.readers.Words.{less}
+use Rattle.xml_grammar.specs.readers.RuleReaders.{read_with_value_marks}
+use Rattle.xml_tokens.specs.readers.Literals.{less}
 use Rattle.xml_tokens.specs.declared.fault_kind.FaultKind.{FaultKind}
 use Rattle.tree_text.specs.declared.raw_attribute.RawAttribute.{RawAttribute}
-use Rattle.tree_text.specs.Names.{decls_of, attrs_of, is_misnamed, repeats_name, is_repeated, raw_attribute_decl as decl_of, is_declaring as declares, is_unbound_in as is_unbound}
-use Rattle.tree_text.specs.readers.TagNameFaults.{attribute_fault, first_wrong, first_of_tag, counted_back, tag_fault}
+use Rattle.tree_text.specs.Names.{decls_of, attrs_of, is_misnamed, repeats_name, is_repeated, raw_attribute_decl as decl_of, is_xmlns_attr_name as declares, is_prefix_unbound as is_unbound}
+use Rattle.tree_text.specs.readers.TagNameFaults.{attribute_fault, first_attribute_fault, first_tag_fault, counted_from_end, tag_fault}
 use Rattle.tree_text.specs.Names as names
-use Rattle.tree_text.specs.Pieces.{StartTag}
+use Rattle.tree_text.specs.ContentPieces.{StartTag}
 use Rattle.tree_text.specs.readers.TagValues.{start_tag_of}
 use Rattle.xml_tokens.specs.readers.Tokens.{read_spaces}
 use Rattle.tree_text.specs.readers.Texts.{read_raw_attribute, raw_attribute_follows, read_tag_end, read_tag}
@@ -52,10 +52,10 @@ not_same xs ys n = by (bytes_eq xs ys) refl
     by false e = e
 
 abbrev Declarations : List Decl → Type 0
-Declarations ds = AllByRecursion (λ d. IsTrue (is_declaration d)) ds
+Declarations ds = AllByRecursion (λ d. IsTrue (is_proper_decl d)) ds
 
-decl_parts : (d : Decl) → IsTrue (is_declaration d) → (is_prefix d.prefix ≡ true) × (list_all is_char d.uri ≡ true) × (may_stand d ≡ true)
-decl_parts d h = three_true (is_prefix d.prefix) (list_all is_char d.uri) (may_stand d) h
+decl_parts : (d : Decl) → IsTrue (is_proper_decl d) → (is_prefix d.prefix ≡ true) × (list_all is_char d.uri ≡ true) × (is_allowed_decl d ≡ true)
+decl_parts d h = three_true (is_prefix d.prefix) (list_all is_char d.uri) (is_allowed_decl d) h
 
 undeclared : (ds : List Decl) → Declarations ds → declared_uri ds xmlns_prefix ≡ None
 undeclared [] h = refl
@@ -65,14 +65,14 @@ undeclared (d ∷ ds) h =
     rw (undeclared ds h.1) (rw other refl)
 
 -- no proper declaration binds `xmlns`
-pub still_unbound : (scope : List (List Decl)) (ds : List Decl) → bound scope xmlns_prefix ≡ None → Declarations ds → bound (scope ++ ds ∷ []) xmlns_prefix ≡ None
-still_unbound scope ds h k = bound-inner scope ds xmlns_prefix ∙ ap (λ (z : Option (List ℕ)). some_text (option_or z (declared_uri (joined scope) xmlns_prefix))) (undeclared ds k) ∙ h
+pub still_unbound : (scope : List (List Decl)) (ds : List Decl) → bound_uri scope xmlns_prefix ≡ None → Declarations ds → bound_uri (scope ++ ds ∷ []) xmlns_prefix ≡ None
+still_unbound scope ds h k = bound_uri-inner scope ds xmlns_prefix ∙ ap (λ (z : Option (List ℕ)). non_empty_uri (option_or z (declared_uri (scope_decls scope) xmlns_prefix))) (undeclared ds k) ∙ h
 
-module _ (here : List (List Decl)) (unbound : bound here xmlns_prefix ≡ None) where
-  no_xmlns : (n : Name) → IsNamed here n → n.prefix ≡ xmlns_prefix → ⊥
+module _ (here : List (List Decl)) (unbound : bound_uri here xmlns_prefix ≡ None) where
+  no_xmlns : (n : Name) → IsProperName here n → n.prefix ≡ xmlns_prefix → ⊥
   no_xmlns n h e =
-      let some : IsSome (bound here n.prefix) = h.known (λ (f : n.prefix ≡ []). (let k : xmlns_prefix ≡ [] = sym e ∙ f in absurd cc)) in
-      let none : bound here n.prefix ≡ None = ap (bound here) e ∙ unbound in
+      let some : IsSome (bound_uri here n.prefix) = h.known (λ (f : n.prefix ≡ []). (let k : xmlns_prefix ≡ [] = sym e ∙ f in absurd cc)) in
+      let none : bound_uri here n.prefix ≡ None = ap (bound_uri here) e ∙ unbound in
       (let k : is_some {T = List ℕ} None ≡ true = subst (λ (z : Option (List ℕ)). is_some z ≡ true) none some in absurd cc)
 
   declares_by : (a b c : Bool) → (a ≡ true → b ≡ false) → c ≡ false → (a && b) || c ≡ false
@@ -80,12 +80,12 @@ module _ (here : List (List Decl)) (unbound : bound here xmlns_prefix ≡ None) 
   declares_by true false c f g = g
   declares_by false b c f g = g
 
-  no_declaration : (a : Attr) → IsAttribute here a → declares a.name ≡ false
+  no_declaration : (a : Attr) → IsProperAttr here a → declares a.name ≡ false
   no_declaration a h = declares_by (bytes_eq a.name.prefix []) (bytes_eq a.name.local xmlns_prefix) (bytes_eq a.name.prefix xmlns_prefix)
       (λ e. not_same a.name.local xmlns_prefix (h.other ((bytes_eq-Decides a.name.prefix []).0 e)))
       (not_same a.name.prefix xmlns_prefix (no_xmlns a.name h.named))
 
-  no_declarations : (ats : List Attr) → AllByRecursion (IsAttribute here) ats → AllByRecursion (λ (a : Attr). declares a.name ≡ false) ats
+  no_declarations : (ats : List Attr) → AllByRecursion (IsProperAttr here) ats → AllByRecursion (λ (a : Attr). declares a.name ≡ false) ats
   no_declarations [] h = tt
   no_declarations (a ∷ ats) h = (no_declaration a h.0, no_declarations ats h.1)
 
@@ -143,7 +143,7 @@ module _ (here : List (List Decl)) where
   none_before [] s back h = refl
   none_before (e ∷ front) s back h = rw (at_place (λ (z : RawAttribute). repeats_name here z e ≡ false) front s back h.0) (none_before front s back h.1)
 
-  none_wrong : (front ss : List RawAttribute) (at : ℕ) → Apart (front ++ ss) → WellNamed ss → first_wrong here front at ss ≡ None
+  none_wrong : (front ss : List RawAttribute) (at : ℕ) → Apart (front ++ ss) → WellNamed ss → first_attribute_fault here front at ss ≡ None
   none_wrong front [] at h w = refl
   none_wrong front (s ∷ ss) at h w =
       let r = none_before front s ss h in
@@ -194,15 +194,15 @@ module _ (here : List (List Decl)) where
   bound_by [] o h = refl
   bound_by (c ∷ cs) o h = ap not (h (λ (e : c ∷ cs ≡ []). absurd cc))
 
-  is_bound : (n : Name) → IsNamed here n → is_unbound here n ≡ false
-  is_bound n h = bound_by n.prefix (bound here n.prefix) h.known
+  is_bound : (n : Name) → IsProperName here n → is_unbound here n ≡ false
+  is_bound n h = bound_by n.prefix (bound_uri here n.prefix) h.known
 
-  attrs_named : (ats : List Attr) → Others ats → AllByRecursion (IsAttribute here) ats → WellNamed (map said_from ats)
+  attrs_named : (ats : List Attr) → Others ats → AllByRecursion (IsProperAttr here) ats → WellNamed (map said_from ats)
   attrs_named [] n h = tt
   attrs_named (a ∷ ats) n h = (rw n.0 (is_bound a.name h.0.named), attrs_named ats n.1 h.1)
 
-  decl_named : (d : Decl) → may_stand d ≡ true → is_misnamed here (said_from (attr_for d)) ≡ false
-  decl_named d h = rw (declares_for d.prefix) (ap (λ (z : Decl). not (may_stand z)) (decl_back d) ∙ ap not h)
+  decl_named : (d : Decl) → is_allowed_decl d ≡ true → is_misnamed here (said_from (attr_for d)) ≡ false
+  decl_named d h = rw (declares_for d.prefix) (ap (λ (z : Decl). not (is_allowed_decl z)) (decl_back d) ∙ ap not h)
 
   all_named : (ds : List Decl) (ats : List Attr) → Declarations ds → WellNamed (map said_from ats) → WellNamed (said_all ds ats)
   all_named [] ats h k = k
@@ -218,23 +218,23 @@ tag_from n ds ats empty size = record { name = n; raw_attribute = said_all ds at
 abbrev pub tag_mark : Bool → List ℕ
 tag_mark empty = cond empty (47 ∷ 62 ∷ []) (62 ∷ [])
 
-first_none : (here : List (List Decl)) (n : Name) (ds : List Decl) (ats : List Attr) (empty : Bool) (size : ℕ) → Others ats → IsTag here n ds ats → first_of_tag here (tag_from n ds ats empty size) ≡ None
+first_none : (here : List (List Decl)) (n : Name) (ds : List Decl) (ats : List Attr) (empty : Bool) (size : ℕ) → Others ats → IsProperTag here n ds ats → first_tag_fault here (tag_from n ds ats empty size) ≡ None
 first_none here n ds ats empty size others h =
     let named = is_bound here n h.named in
     let apart = apart_all here ds ats others h.prefixes (apart_attrs here ats others h.names) in
     let well = all_named here ds ats h.declarations (attrs_named here ats others h.attributes) in
-    rw named (none_wrong here [] (said_all ds ats) (names.opening_size (tag_from n ds ats empty size)) apart well)
+    rw named (none_wrong here [] (said_all ds ats) (names.tag_front_size (tag_from n ds ats empty size)) apart well)
 
-no_fault : (scope : List (List Decl)) (n : Name) (ds : List Decl) (ats : List Attr) (empty : Bool) (size : ℕ) → Others ats → IsTag (scope ++ ds ∷ []) n ds ats → tag_fault scope (tag_from n ds ats empty size) ≡ None
+no_fault : (scope : List (List Decl)) (n : Name) (ds : List Decl) (ats : List Attr) (empty : Bool) (size : ℕ) → Others ats → IsProperTag (scope ++ ds ∷ []) n ds ats → tag_fault scope (tag_from n ds ats empty size) ≡ None
 no_fault scope n ds ats empty size others h =
-    ap (λ (z : List Decl). counted_back size (first_of_tag (scope ++ z ∷ []) (tag_from n ds ats empty size))) (decls_back ds ats others)
-    ∙ ap (counted_back size) (first_none (scope ++ ds ∷ []) n ds ats empty size others h)
+    ap (λ (z : List Decl). counted_from_end size (first_tag_fault (scope ++ z ∷ []) (tag_from n ds ats empty size))) (decls_back ds ats others)
+    ∙ ap (counted_from_end size) (first_none (scope ++ ds ∷ []) n ds ats empty size others h)
 
-printed_attrs : (here : List (List Decl)) (ats : List Attr) → AllByRecursion (IsAttribute here) ats → ArePrinted ats
+printed_attrs : (here : List (List Decl)) (ats : List Attr) → AllByRecursion (IsProperAttr here) ats → ArePrinted ats
 printed_attrs here [] h = tt
 printed_attrs here (a ∷ ats) h = (record { name = record { prefix = h.0.named.prefix; local = h.0.named.local }; value = h.0.value }, printed_attrs here ats h.1)
 
-pub printed_all : (here : List (List Decl)) (ds : List Decl) (ats : List Attr) → Declarations ds → AllByRecursion (IsAttribute here) ats → ArePrinted (map attr_for ds ++ ats)
+pub printed_all : (here : List (List Decl)) (ds : List Decl) (ats : List Attr) → Declarations ds → AllByRecursion (IsProperAttr here) ats → ArePrinted (map attr_for ds ++ ats)
 printed_all here [] ats h k = printed_attrs here ats k
 printed_all here (d ∷ ds) ats h k = let p = decl_parts d h.0 in (decl_printed d p.0 p.1, printed_all here ds ats h.1 k)
 
@@ -259,12 +259,12 @@ no_space true rest = reads_none is_space (47 ∷ 62 ∷ rest) refl
 no_space false rest = reads_none is_space (62 ∷ rest) refl
 
 abbrev pub read_judged_tag : List (List Decl) → Reader FaultKind StartTag
-read_judged_tag scope = read_judged (tag_fault scope) read_tag
+read_judged_tag scope = read_with_value_marks (tag_fault scope) read_tag
 
 abbrev tag_text : Name → List Decl → List Attr → Bool → List ℕ → List ℕ
 tag_text n ds ats empty rest = tag_front n ds ats ++ (tag_mark empty ++ rest)
 
-module _ (scope : List (List Decl)) (n : Name) (ds : List Decl) (ats : List Attr) (empty : Bool) (rest : List ℕ) (unbound : bound (scope ++ ds ∷ []) xmlns_prefix ≡ None) (h : IsTag (scope ++ ds ∷ []) n ds ats) where
+module _ (scope : List (List Decl)) (n : Name) (ds : List Decl) (ats : List Attr) (empty : Bool) (rest : List ℕ) (unbound : bound_uri (scope ++ ds ∷ []) xmlns_prefix ≡ None) (h : IsProperTag (scope ++ ds ∷ []) n ds ats) where
   others : Others ats
   others = no_declarations (scope ++ ds ∷ []) unbound ats h.attributes
 

@@ -4,22 +4,22 @@ use Rattle.std.specs.Prelude.{◌&&◌, ◌||◌, ◌≢◌, ◌==◌, not, Opti
 use Rattle.std.specs.List.{list_all, list_any, AllByRecursion, IsDistinct, cons_option as with_char}
 use Rattle.std.specs.Str.{bytes_eq}
 use Rattle.xml_names.specs.Characters.{is_char, is_name_start, is_name_char, is_name}
-use Rattle.xml_names.specs.Scopes.{bound, xmlns_prefix}
+use Rattle.xml_names.specs.Scopes.{bound_uri, xmlns_prefix}
 use Rattle.xml_names.specs.ExpandedNames.{attr_name, same_expanded}
-use Rattle.xml_tree.specs.Proper.{is_prefix, may_stand, is_declaration, IsNamed, IsAttribute, IsTag}
+use Rattle.xml_tree.specs.Proper.{is_prefix, is_allowed_decl, is_proper_decl, IsProperName, IsProperAttr, IsProperTag}
 use Rattle.xml_names.specs.declared.names.Name.{Name}
 use Rattle.xml_names.specs.declared.names.Decl.{Decl}
-use Rattle.xml_grammar.specs.Digits.{decimal_digits, hexadecimal}
-use Rattle.xml_grammar.specs.Rules.{AllPass, Each, word, run, number, sequence, either, optional, keeping_second}
+use Rattle.xml_grammar.specs.Digits.{decimal_digits, hexadecimal_digits}
+use Rattle.xml_grammar.specs.Rules.{AllPass, SpellsEach, word, char_run, number, sequence, either, optional, keep_second}
 use Rattle.xml_grammar.proofs.Fronts.{pass_append}
-use Rattle.xml_tokens.specs.readers.Words.{colon, small_x}
+use Rattle.xml_tokens.specs.readers.Literals.{colon, letter_x}
 use Rattle.xml_tokens.specs.declared.fault_kind.FaultKind.{FaultKind}
 use Rattle.xml_tokens.specs.declared.fault_kind.FaultKind.TheVariants.{Unbound, Repeated}
 use Rattle.tree_text.specs.declared.raw_attribute.RawAttribute.{RawAttribute}
-use Rattle.xml_tokens.specs.Values.{qname_of, line_ends, blanks, raw, more_value}
-use Rattle.tree_text.specs.Pieces.{StartTag}
-use Rattle.tree_text.specs.Names.{raw_attribute_attr, decls_of, attrs_of, is_misnamed, repeats_name, is_repeated, widths, IsWrong, inside_tag as inside, opening_size as opening, raw_attribute_decl as decl_of, is_declaring as declares, is_unbound_in as is_unbound}
-use Rattle.xml_tokens.specs.Tokens.{last_char, name, qname, reference, char_ref, entity, is_raw, is_raw_in, value}
+use Rattle.xml_tokens.specs.Values.{qname_of, normalize_line_ends, normalize_spaces, normalized_raw, pieces_value}
+use Rattle.tree_text.specs.ContentPieces.{StartTag}
+use Rattle.tree_text.specs.Names.{raw_attribute_attr, decls_of, attrs_of, is_misnamed, repeats_name, is_repeated, attributes_size, IsTagFault, scope_inside_tag as inside, tag_front_size as opening, raw_attribute_decl as decl_of, is_xmlns_attr_name as declares, is_prefix_unbound as is_unbound}
+use Rattle.xml_tokens.specs.Tokens.{max_char, name, qname, reference, char_ref, entity, is_raw_char, is_raw_value_char, value}
 use Rattle.tree_text.specs.Grammar.{raw_attribute, start_tag}
 use Rattle.tree_text.proofs.JudgeTags.{widths_parts, tag_sizes}
 use Rattle.xml_tokens.proofs.CharacterTests.{join, pass_all}
@@ -41,7 +41,7 @@ record IsQName (n : Name) : Type 0 where
   prefix : is_prefix n.prefix ≡ true
   local : is_name n.local ≡ true
 
-qname_by_rest : (f v : List ℕ) (o : Option (List ℕ)) → is_name f ≡ true → (optional (keeping_second (word {Kind = FaultKind} colon) name)).Spells v o → IsQName (qname_of (f, o))
+qname_by_rest : (f v : List ℕ) (o : Option (List ℕ)) → is_name f ≡ true → (optional (keep_second (word {Kind = FaultKind} colon) name)).Spells v o → IsQName (qname_of (f, o))
 qname_by_rest f v o h (inl r) = subst (λ (z : Option (List ℕ)). IsQName (qname_of (f, z))) (sym r.2) (record {
   prefix = or_right (bytes_eq f []) (is_name f) h;
   local = ap is_name r.1.2 ∙ name_proper r.1.1.back r.1.0.1 r.1.1.back_is;
@@ -61,7 +61,7 @@ two_true : (a b : Bool) → a && b ≡ true → a ≡ true
 two_true true b h = refl
 two_true false b h = absurd cc
 
-pub raw_char : (c : ℕ) → is_raw c ≡ true → is_char c ≡ true
+pub raw_char : (c : ℕ) → is_raw_char c ≡ true → is_char c ≡ true
 raw_char c h = first_true (is_char c) _ _ h
 
 lines_by : (a b : Bool) (c : ℕ) (xs : List ℕ) → is_char c ≡ true → AllPass is_char xs → AllPass is_char (with_char (cond a (cond b None (Some 10)) (Some c)) xs)
@@ -69,22 +69,22 @@ lines_by true true c xs h k = k
 lines_by true false c xs h k = (refl, k)
 lines_by false b c xs h k = (h, k)
 
-pub lines_chars : (cs : List ℕ) → AllPass is_char cs → AllPass is_char (line_ends cs)
+pub lines_chars : (cs : List ℕ) → AllPass is_char cs → AllPass is_char (normalize_line_ends cs)
 lines_chars [] h = tt
-lines_chars (c ∷ cs) h = lines_by _ _ c (line_ends cs) h.0 (lines_chars cs h.1)
+lines_chars (c ∷ cs) h = lines_by _ _ c (normalize_line_ends cs) h.0 (lines_chars cs h.1)
 
 blank_by : (a : Bool) (c : ℕ) → is_char c ≡ true → is_char (cond a 32 c) ≡ true
 blank_by true c h = refl
 blank_by false c h = h
 
-pub blanks_chars : (cs : List ℕ) → AllPass is_char cs → AllPass is_char (blanks cs)
+pub blanks_chars : (cs : List ℕ) → AllPass is_char cs → AllPass is_char (normalize_spaces cs)
 blanks_chars [] h = tt
 blanks_chars (c ∷ cs) h = (blank_by (c == 9 || c == 10) c h.0, blanks_chars cs h.1)
 
-raw_chars : (q : ℕ) (cs : List ℕ) → AllPass (is_raw_in q) cs → AllPass is_char (raw cs)
-raw_chars q cs h = blanks_chars (line_ends cs) (lines_chars cs (weaker (is_raw_in q) is_char (λ c k. raw_char c (two_true (is_raw c) _ k)) cs h))
+raw_chars : (q : ℕ) (cs : List ℕ) → AllPass (is_raw_value_char q) cs → AllPass is_char (normalized_raw cs)
+raw_chars q cs h = blanks_chars (normalize_line_ends cs) (lines_chars cs (weaker (is_raw_value_char q) is_char (λ c k. raw_char c (two_true (is_raw_char c) _ k)) cs h))
 
-number_char : (v : List ℕ) (c : ℕ) → (either (keeping_second (word {Kind = FaultKind} small_x) (number hexadecimal last_char is_char)) (number decimal_digits last_char is_char)).Spells v c → is_char c ≡ true
+number_char : (v : List ℕ) (c : ℕ) → (either (keep_second (word {Kind = FaultKind} letter_x) (number hexadecimal_digits max_char is_char)) (number decimal_digits max_char is_char)).Spells v c → is_char c ≡ true
 number_char v c (inl m) = ap is_char m.2 ∙ m.1.back_is.3
 number_char v c (inr m) = m.3
 
@@ -102,14 +102,14 @@ named_char v c (inr m) = entity_char v c m
 pub reference_char : (u : List ℕ) (c : ℕ) → reference.Spells u c → is_char c ≡ true
 reference_char u c m = let k = m.1.back_is in ap is_char (m.2 ∙ k.2) ∙ named_char k.1.front k.0.0 k.1.front_is
 
-more_chars : (q : ℕ) (xs : List (ℕ × List ℕ)) (v : List ℕ) → Each (sequence reference (λ _. run {Kind = FaultKind} (is_raw_in q))) xs v → AllPass is_char (more_value xs)
+more_chars : (q : ℕ) (xs : List (ℕ × List ℕ)) (v : List ℕ) → SpellsEach (sequence reference (λ _. char_run {Kind = FaultKind} (is_raw_value_char q))) xs v → AllPass is_char (pieces_value xs)
 more_chars q [] v m = tt
 more_chars q ((c, cs) ∷ xs) v m =
     let k = m.front_is in
-    (reference_char k.front c k.front_is, pass_append is_char (raw cs) (more_value xs) (raw_chars q cs (subst (AllPass (is_raw_in q)) (sym k.back_is.1) k.back_is.0)) (more_chars q xs m.back m.back_is))
+    (reference_char k.front c k.front_is, pass_append is_char (normalized_raw cs) (pieces_value xs) (raw_chars q cs (subst (AllPass (is_raw_value_char q)) (sym k.back_is.1) k.back_is.0)) (more_chars q xs m.back m.back_is))
 
 value_chars : (q : ℕ) (u cs : List ℕ) → (value q).Spells u cs → AllPass is_char cs
-value_chars q u cs m = subst (AllPass is_char) (sym m.2) (pass_append is_char (raw m.0.0) (more_value m.0.1) (raw_chars q m.0.0 (subst (AllPass (is_raw_in q)) (sym m.1.front_is.1) m.1.front_is.0)) (more_chars q m.0.1 m.1.back m.1.back_is))
+value_chars q u cs m = subst (AllPass is_char) (sym m.2) (pass_append is_char (normalized_raw m.0.0) (pieces_value m.0.1) (raw_chars q m.0.0 (subst (AllPass (is_raw_value_char q)) (sym m.1.front_is.1) m.1.front_is.0)) (more_chars q m.0.1 m.1.back m.1.back_is))
 
 -- # The raw attributes of a tag
 
@@ -132,7 +132,7 @@ abbrev AllSaid : List RawAttribute → Type 0
 AllSaid [] = Unit {0}
 AllSaid (s ∷ ss) = IsSaid s × AllSaid ss
 
-each_proper : (ss : List RawAttribute) (u : List ℕ) → Each raw_attribute ss u → AllSaid ss
+each_proper : (ss : List RawAttribute) (u : List ℕ) → SpellsEach raw_attribute ss u → AllSaid ss
 each_proper [] u m = tt
 each_proper (s ∷ ss) u m = (said_proper m.front s m.front_is, each_proper ss m.back m.back_is)
 
@@ -146,8 +146,8 @@ known_of [] o h n = absurd (n refl)
 known_of (c ∷ cs) (Some x) h n = refl
 known_of (c ∷ cs) None h n = absurd cc
 
-named_in : (here : List (List Decl)) (n : Name) → IsQName n → is_unbound here n ≡ false → IsNamed here n
-named_in here n q h = record { prefix = q.prefix; local = q.local; known = known_of n.prefix (bound here n.prefix) h }
+named_in : (here : List (List Decl)) (n : Name) → IsQName n → is_unbound here n ≡ false → IsProperName here n
+named_in here n q h = record { prefix = q.prefix; local = q.local; known = known_of n.prefix (bound_uri here n.prefix) h }
 
 not_false : (b : Bool) → not b ≡ false → b ≡ true
 not_false true h = refl
@@ -157,11 +157,11 @@ prefix_by : (b : Bool) (l : List ℕ) → is_name l ≡ true → is_prefix (cond
 prefix_by true l h = refl
 prefix_by false l h = or_right (bytes_eq l []) (is_name l) h
 
-decl_proper : (s : RawAttribute) → IsSaid s → may_stand (decl_of s) ≡ true → IsTrue (is_declaration (decl_of s))
+decl_proper : (s : RawAttribute) → IsSaid s → is_allowed_decl (decl_of s) ≡ true → IsTrue (is_proper_decl (decl_of s))
 decl_proper s i h =
     let p : is_prefix (decl_of s).prefix ≡ true = prefix_by (bytes_eq s.name.prefix []) s.name.local i.named.local in
     let c : list_all is_char s.value ≡ true = pass_all is_char s.value i.chars in
-    three (is_prefix (decl_of s).prefix) (list_all is_char s.value) (may_stand (decl_of s)) p c h
+    three (is_prefix (decl_of s).prefix) (list_all is_char s.value) (is_allowed_decl (decl_of s)) p c h
   where
     three : (a b c : Bool) → a ≡ true → b ≡ true → c ≡ true → a && b && c ≡ true
     three true true true h i j = refl
@@ -175,36 +175,36 @@ other_name n d e f =
     absurd cc
 
 module _ (here : List (List Decl)) where
-  attr_proper : (s : RawAttribute) → IsSaid s → declares s.name ≡ false → is_unbound here s.name ≡ false → IsAttribute here (raw_attribute_attr s)
+  attr_proper : (s : RawAttribute) → IsSaid s → declares s.name ≡ false → is_unbound here s.name ≡ false → IsProperAttr here (raw_attribute_attr s)
   attr_proper s i d h = record { named = named_in here s.name i.named h; other = other_name s.name d; value = pass_all is_char s.value i.chars }
 
-  misnamed_decl : (s : RawAttribute) → declares s.name ≡ true → is_misnamed here s ≡ false → may_stand (decl_of s) ≡ true
-  misnamed_decl s d h = not_false (may_stand (decl_of s)) (by (declares s.name) d h)
+  misnamed_decl : (s : RawAttribute) → declares s.name ≡ true → is_misnamed here s ≡ false → is_allowed_decl (decl_of s) ≡ true
+  misnamed_decl s d h = not_false (is_allowed_decl (decl_of s)) (by (declares s.name) d h)
     where
-      by : (b : Bool) → b ≡ true → cond b (not (may_stand (decl_of s))) (is_unbound here s.name) ≡ false → not (may_stand (decl_of s)) ≡ false
+      by : (b : Bool) → b ≡ true → cond b (not (is_allowed_decl (decl_of s))) (is_unbound here s.name) ≡ false → not (is_allowed_decl (decl_of s)) ≡ false
       by true e k = k
       by false e k = absurd cc
 
   misnamed_attr : (s : RawAttribute) → declares s.name ≡ false → is_misnamed here s ≡ false → is_unbound here s.name ≡ false
   misnamed_attr s d h = by (declares s.name) d h
     where
-      by : (b : Bool) → b ≡ false → cond b (not (may_stand (decl_of s))) (is_unbound here s.name) ≡ false → is_unbound here s.name ≡ false
+      by : (b : Bool) → b ≡ false → cond b (not (is_allowed_decl (decl_of s))) (is_unbound here s.name) ≡ false → is_unbound here s.name ≡ false
       by true e k = absurd cc
       by false e k = k
 
-  decls_proper : (ss earlier : List RawAttribute) → AllSaid ss → AllRight here earlier ss → AllByRecursion (λ d. IsTrue (is_declaration d)) (decls_of ss)
+  decls_proper : (ss earlier : List RawAttribute) → AllSaid ss → AllRight here earlier ss → AllByRecursion (λ d. IsTrue (is_proper_decl d)) (decls_of ss)
   decls_proper [] earlier i h = tt
   decls_proper (s ∷ ss) earlier i h = by (declares s.name) refl (decls_proper ss (earlier ++ s ∷ []) i.1 h.2)
     where
-      by : (b : Bool) → declares s.name ≡ b → AllByRecursion (λ d. IsTrue (is_declaration d)) (decls_of ss) → AllByRecursion (λ d. IsTrue (is_declaration d)) (cond b (decl_of s ∷ decls_of ss) (decls_of ss))
+      by : (b : Bool) → declares s.name ≡ b → AllByRecursion (λ d. IsTrue (is_proper_decl d)) (decls_of ss) → AllByRecursion (λ d. IsTrue (is_proper_decl d)) (cond b (decl_of s ∷ decls_of ss) (decls_of ss))
       by true e r = (decl_proper s i.0 (misnamed_decl s e h.0), r)
       by false e r = r
 
-  attrs_proper : (ss earlier : List RawAttribute) → AllSaid ss → AllRight here earlier ss → AllByRecursion (IsAttribute here) (attrs_of ss)
+  attrs_proper : (ss earlier : List RawAttribute) → AllSaid ss → AllRight here earlier ss → AllByRecursion (IsProperAttr here) (attrs_of ss)
   attrs_proper [] earlier i h = tt
   attrs_proper (s ∷ ss) earlier i h = by (declares s.name) refl (attrs_proper ss (earlier ++ s ∷ []) i.1 h.2)
     where
-      by : (b : Bool) → declares s.name ≡ b → AllByRecursion (IsAttribute here) (attrs_of ss) → AllByRecursion (IsAttribute here) (cond b (attrs_of ss) (raw_attribute_attr s ∷ attrs_of ss))
+      by : (b : Bool) → declares s.name ≡ b → AllByRecursion (IsProperAttr here) (attrs_of ss) → AllByRecursion (IsProperAttr here) (cond b (attrs_of ss) (raw_attribute_attr s ∷ attrs_of ss))
       by true e r = r
       by false e r = (attr_proper s i.0 e (misnamed_attr s e h.0), r)
 
@@ -215,11 +215,11 @@ module _ (here : List (List Decl)) where
       or_left : (a b : Bool) → a || b ≡ false → a ≡ false
       or_left true b h = absurd cc
       or_left false b h = refl
-  any_false test (x ∷ pre) e post h = any_false test pre e post (or_later (test x) (list_any test (pre ++ e ∷ post)) h)
+  any_false test (x ∷ pre) e post h = any_false test pre e post (fault_or_later (test x) (list_any test (pre ++ e ∷ post)) h)
     where
-      or_later : (a b : Bool) → a || b ≡ false → b ≡ false
-      or_later true b h = absurd cc
-      or_later false b h = h
+      fault_or_later : (a b : Bool) → a || b ≡ false → b ≡ false
+      fault_or_later true b h = absurd cc
+      fault_or_later false b h = h
 
   unsaid : (ss pre : List RawAttribute) (e : RawAttribute) (post : List RawAttribute) → AllRight here (pre ++ e ∷ post) ss → AllByRecursion (λ s. repeats_name here s e ≡ false) ss
   unsaid [] pre e post h = tt
@@ -291,23 +291,23 @@ tag_parts u t m =
 
 -- a tag without marks
 abbrev Silent : List (List Decl) → StartTag → Type 0
-Silent scope t = (k : FaultKind) (b : ℕ) → IsWrong scope t k b → ⊥
+Silent scope t = (k : FaultKind) (b : ℕ) → IsTagFault scope t k b → ⊥
 
-module _ (scope : List (List Decl)) (t : StartTag) (fits : opening t + widths t.raw_attribute ≤ t.size) (silent : Silent scope t) where
+module _ (scope : List (List Decl)) (t : StartTag) (fits : opening t + attributes_size t.raw_attribute ≤ t.size) (silent : Silent scope t) where
   right_from : (ss earlier : List RawAttribute) → t.raw_attribute ≡ earlier ++ ss → AllRight (inside scope t) earlier ss
   right_from [] earlier j = tt
   right_from (s ∷ ss) earlier j =
-      let w : widths t.raw_attribute ≡ widths (earlier ++ s ∷ ss) = ap widths j in
-      let p : t.size - (opening t + widths earlier + s.gap) + (opening t + widths earlier + s.gap) ≡ t.size = omega (arith, w, widths_parts earlier s ss, fits) in (
-        no_true (is_misnamed (inside scope t) s) (λ e. silent Unbound (t.size - (opening t + widths earlier + s.gap)) (inr (record { earlier = earlier; raw_attribute = s; later = ss; among = j; wrong = e; place = p }))),
-        no_true (is_repeated (inside scope t) earlier s) (λ e. silent Repeated (t.size - (opening t + widths earlier + s.gap)) (inr (record { earlier = earlier; raw_attribute = s; later = ss; among = j; wrong = e; place = p }))),
+      let w : attributes_size t.raw_attribute ≡ attributes_size (earlier ++ s ∷ ss) = ap attributes_size j in
+      let p : t.size - (opening t + attributes_size earlier + s.gap) + (opening t + attributes_size earlier + s.gap) ≡ t.size = omega (arith, w, widths_parts earlier s ss, fits) in (
+        no_true (is_misnamed (inside scope t) s) (λ e. silent Unbound (t.size - (opening t + attributes_size earlier + s.gap)) (inr (record { earlier = earlier; raw_attribute = s; later = ss; among = j; wrong = e; place = p }))),
+        no_true (is_repeated (inside scope t) earlier s) (λ e. silent Repeated (t.size - (opening t + attributes_size earlier + s.gap)) (inr (record { earlier = earlier; raw_attribute = s; later = ss; among = j; wrong = e; place = p }))),
         right_from ss (earlier ++ s ∷ []) (j ∙ sym (append_assoc earlier (s ∷ []) ss)),
       )
 
   name_right : is_unbound (inside scope t) t.name ≡ false
   name_right = no_true (is_unbound (inside scope t) t.name) (λ e. silent Unbound (t.size - 1) (inl (record { wrong = e; kind_is = refl; place = omega (arith, fits) })))
 
-  tag_by : IsQName t.name → AllSaid t.raw_attribute → IsTag (inside scope t) t.name (decls_of t.raw_attribute) (attrs_of t.raw_attribute)
+  tag_by : IsQName t.name → AllSaid t.raw_attribute → IsProperTag (inside scope t) t.name (decls_of t.raw_attribute) (attrs_of t.raw_attribute)
   tag_by named all =
       let right = right_from t.raw_attribute [] refl in
       record {
@@ -319,7 +319,7 @@ module _ (scope : List (List Decl)) (t : StartTag) (fits : opening t + widths t.
       }
 
 -- A tag without marks is proper.
-pub tag_proper : (scope : List (List Decl)) (u : List ℕ) (t : StartTag) → start_tag.Spells u t → Silent scope t → IsTag (inside scope t) t.name (decls_of t.raw_attribute) (attrs_of t.raw_attribute)
+pub tag_proper : (scope : List (List Decl)) (u : List ℕ) (t : StartTag) → start_tag.Spells u t → Silent scope t → IsProperTag (inside scope t) t.name (decls_of t.raw_attribute) (attrs_of t.raw_attribute)
 tag_proper scope u t m silent =
     let z = tag_sizes u t m in
     let p = tag_parts u t m in

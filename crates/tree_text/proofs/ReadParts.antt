@@ -4,9 +4,9 @@ use Rattle.std.specs.Prelude.{◌==◌}
 use Rattle.std.proofs.lemmas.Bool.Decides.{nat_tests}
 use Rattle.std.specs.Char.{is_ascii_digit as is_digit, is_ascii_hexdigit as is_hex_digit}
 use Rattle.xml_names.specs.Characters.{is_char, is_space, is_name_start, is_name_char}
-use Rattle.xml_grammar.specs.Digits.{decimal_digits, hexadecimal}
-use Rattle.xml_grammar.specs.Rules.{word, keeping_second}
-use Rattle.xml_grammar.specs.Answers.{Faults}
+use Rattle.xml_grammar.specs.Digits.{decimal_digits, hexadecimal_digits}
+use Rattle.xml_grammar.specs.Rules.{word, keep_second}
+use Rattle.xml_grammar.specs.ParseResults.{FaultRanking}
 use Rattle.xml_grammar.proofs.Exact.{Rest, ahead, Exact, exact_sequence}
 use Rattle.xml_grammar.proofs.Leaves.{exact_word}
 use Rattle.xml_grammar.proofs.Carry.{exact_valued, exact_sized}
@@ -19,13 +19,13 @@ use Rattle.xml_grammar.proofs.Shapes.{exact_before, exact_behind, exact_name_of,
 use Rattle.xml_grammar.proofs.LedRules.{Led, led_word, led_then, led_valued, led_sized}
 use Rattle.xml_grammar.proofs.Tests.{exact_either_head, exact_optional_head, exact_between_run_head, exact_either_next}
 use Rattle.xml_grammar.proofs.SpacedRules.{blank_some_of, Leads, leads_sequence, leads_valued, spaced_run, exact_spaced_many}
-use Rattle.xml_tokens.specs.readers.Words.{less, greater, empty_end, colon, ampersand, semicolon, hash, small_x, amp, lt, gt, quot, apos, equals_sign}
+use Rattle.xml_tokens.specs.readers.Literals.{less, greater, empty_tag_end, colon, ampersand, semicolon, hash, letter_x, amp, lt, gt, quot, apos, equals_sign}
 use Rattle.xml_tokens.specs.declared.fault_kind.FaultKind.{FaultKind}
-use Rattle.xml_tokens.specs.Values.{qname_of, value_spelled as value_of}
+use Rattle.xml_tokens.specs.Values.{qname_of, normalized_value as value_of}
 use Rattle.tree_text.specs.readers.TagValues.{raw_attribute_of, start_tag_of}
-use Rattle.xml_tokens.specs.Tokens.{name, qname, spaces, equals, stands_for, entity, last_char, char_ref, reference, is_quote, is_raw_in, value}
+use Rattle.xml_tokens.specs.Tokens.{name, qname, spaces, equals, predefined_entity, entity, max_char, char_ref, reference, is_quote, is_raw_value_char, value}
 use Rattle.tree_text.specs.Grammar.{attribute, raw_attribute, tag_end, start_tag}
-use Rattle.xml_tokens.specs.readers.Tokens.{read_name, read_qname, read_spaces, read_equals, read_stands_for, read_entity, read_numbered, read_reference, read_value}
+use Rattle.xml_tokens.specs.readers.Tokens.{read_name, read_qname, read_spaces, read_equals, read_predefined_entity, read_entity, read_char_ref, read_reference, read_value}
 use Rattle.tree_text.specs.readers.Texts.{read_attribute, read_raw_attribute, read_tag_end, read_tag}
 use Rattle.xml_tokens.proofs.NameFronts.{NoName}
 
@@ -48,7 +48,7 @@ quote_no_space c h = grind (arith, nat_tests)
 quote_no_amp : (c : ℕ) → is_quote c ≡ true → (c == 38) ≡ false
 quote_no_amp c h = grind (arith, nat_tests)
 
-no_own_quote : (q c : ℕ) → c ≡ q → is_raw_in q c ≡ false
+no_own_quote : (q c : ℕ) → c ≡ q → is_raw_value_char q c ≡ false
 no_own_quote q c e = grind (arith, nat_tests)
 
 pub same : (d c : ℕ) → c ≡ d → (c == d) ≡ true
@@ -59,11 +59,11 @@ apart d c t f = absurd cc
 
 -- # Names
 
-module _ (faults : Faults FaultKind) where
+module _ (faults : FaultRanking FaultKind) where
   pub exact_name : {K : Rest FaultKind} → Heads NoName K → Exact faults name (λ _. K) read_name
   exact_name h = exact_name_of (λ _. h)
 
-  starts_colon : {P : ℕ → Type 0} → P 58 → Starts P (keeping_second (word {Kind = FaultKind} colon) name)
+  starts_colon : {P : ℕ → Type 0} → P 58 → Starts P (keep_second (word {Kind = FaultKind} colon) name)
   starts_colon h = starts_behind name (starts_word h)
 
   pub exact_qname : {K : Rest FaultKind} → Heads NoQName K → Exact faults qname (λ _. K) read_qname
@@ -101,7 +101,7 @@ module _ (faults : Faults FaultKind) where
 
   -- # References
 
-  exact_stands_for : {c : ℕ} {w : List ℕ} {K : Rest FaultKind} → Exact faults (stands_for c w) (λ _. K) (read_stands_for c w)
+  exact_stands_for : {c : ℕ} {w : List ℕ} {K : Rest FaultKind} → Exact faults (predefined_entity c w) (λ _. K) (read_predefined_entity c w)
   exact_stands_for {c} = exact_valued (λ _. c) exact_word
 
   exact_entity : {K : Rest FaultKind} → Exact faults entity (λ _. K) read_entity
@@ -110,12 +110,12 @@ module _ (faults : Faults FaultKind) where
       (exact_either_head (λ c. c == 113) (starts_valued _ (starts_word {P = λ c. c ≡ 113} refl)) (same 113) (heads_starts (starts_either (starts_valued _ (starts_word refl)) (starts_valued _ (starts_word refl)))) (apart 113) exact_stands_for
       (exact_either_next (97 ∷ []) 112 (led_valued _ (led_word (97 ∷ []) 112 (111 ∷ 115 ∷ []) refl)) (led_valued _ (led_word {Q = λ c. c ≡ 109} (97 ∷ []) 109 (112 ∷ []) refl)) (λ e. absurd (omega (arith, e))) exact_stands_for exact_stands_for)))
 
-  exact_numbered : {K : Rest FaultKind} → Heads (λ c. (is_digit c ≡ false) × (is_hex_digit c ≡ false)) K → Exact faults char_ref (λ _. K) read_numbered
+  exact_numbered : {K : Rest FaultKind} → Heads (λ c. (is_digit c ≡ false) × (is_hex_digit c ≡ false)) K → Exact faults char_ref (λ _. K) read_char_ref
   exact_numbered {K} h = exact_behind exact_word
       (exact_either_head (λ c. c == 120) (starts_behind _ (starts_word {P = λ c. c ≡ 120} refl)) (same 120)
-      (heads_starts (starts_number {P = λ c. (c == 120) ≡ false} decimal_digits last_char is_char digit_no_x)) (apart 120)
-      (exact_behind exact_word (exact_number hexadecimal last_char is_char (λ _. heads_weaker (λ c x. x.1) h)))
-      (exact_number decimal_digits last_char is_char (λ _. heads_weaker (λ c x. x.0) h)))
+      (heads_starts (starts_number {P = λ c. (c == 120) ≡ false} decimal_digits max_char is_char digit_no_x)) (apart 120)
+      (exact_behind exact_word (exact_number hexadecimal_digits max_char is_char (λ _. heads_weaker (λ c x. x.1) h)))
+      (exact_number decimal_digits max_char is_char (λ _. heads_weaker (λ c x. x.0) h)))
     where
       digit_no_x : (c : ℕ) → is_digit c ≡ true → (c == 120) ≡ false
       digit_no_x c t = grind (arith, nat_tests)
@@ -134,13 +134,13 @@ module _ (faults : Faults FaultKind) where
 
   pub lawful_reference : Lawful reference
   lawful_reference = lawful_behind (lawful_word ampersand) (lawful_before (lawful_either
-      (lawful_behind (lawful_word hash) (lawful_either (lawful_behind (lawful_word small_x) (lawful_number hexadecimal last_char is_char)) (lawful_number decimal_digits last_char is_char)))
+      (lawful_behind (lawful_word hash) (lawful_either (lawful_behind (lawful_word letter_x) (lawful_number hexadecimal_digits max_char is_char)) (lawful_number decimal_digits max_char is_char)))
       (lawful_either (lawful_valued _ (lawful_word lt)) (lawful_either (lawful_valued _ (lawful_word gt)) (lawful_either (lawful_valued _ (lawful_word quot)) (lawful_either (lawful_valued _ (lawful_word apos)) (lawful_valued _ (lawful_word amp)))))))
       (lawful_word semicolon))
 
   pub quiet_reference : Quiet reference
   quiet_reference = quiet_behind (quiet_word ampersand) (quiet_before (quiet_either
-      (quiet_behind (quiet_word hash) (quiet_either (quiet_behind (quiet_word small_x) (quiet_number hexadecimal last_char is_char)) (quiet_number decimal_digits last_char is_char)))
+      (quiet_behind (quiet_word hash) (quiet_either (quiet_behind (quiet_word letter_x) (quiet_number hexadecimal_digits max_char is_char)) (quiet_number decimal_digits max_char is_char)))
       (quiet_either (quiet_valued _ (quiet_word lt)) (quiet_either (quiet_valued _ (quiet_word gt)) (quiet_either (quiet_valued _ (quiet_word quot)) (quiet_either (quiet_valued _ (quiet_word apos)) (quiet_valued _ (quiet_word amp)))))))
       (quiet_word semicolon))
 
@@ -200,7 +200,7 @@ module _ (faults : Faults FaultKind) where
   Ending c = (is_space c ≡ false) × (is_name_start c ≡ false)
 
   lawful_tag_end : Lawful tag_end
-  lawful_tag_end = lawful_either (lawful_valued _ (lawful_word empty_end)) (lawful_valued _ (lawful_word greater))
+  lawful_tag_end = lawful_either (lawful_valued _ (lawful_word empty_tag_end)) (lawful_valued _ (lawful_word greater))
 
   -- a tag is closed
   pub closed_tag : Exact faults start_tag (λ _. anything) read_tag
@@ -217,7 +217,7 @@ module _ (faults : Faults FaultKind) where
   lawful_tag = lawful_valued start_tag_of (lawful_sized (lawful_behind (lawful_word less) (lawful_sequence lawful_qname (λ _. lawful_sequence (lawful_before (lawful_many lawful_said (inl (inl (inl refl)))) lawful_run) (λ _. lawful_tag_end)))))
 
   pub quiet_tag : Quiet start_tag
-  quiet_tag = quiet_valued start_tag_of (quiet_sized (quiet_behind (quiet_word less) (quiet_sequence quiet_qname (λ _. quiet_sequence (quiet_before (quiet_many quiet_said) quiet_run) (λ _. quiet_either (quiet_valued _ (quiet_word empty_end)) (quiet_valued _ (quiet_word greater)))))))
+  quiet_tag = quiet_valued start_tag_of (quiet_sized (quiet_behind (quiet_word less) (quiet_sequence quiet_qname (λ _. quiet_sequence (quiet_before (quiet_many quiet_said) quiet_run) (λ _. quiet_either (quiet_valued _ (quiet_word empty_tag_end)) (quiet_valued _ (quiet_word greater)))))))
 
   -- `<`, and the first character of a name
   pub led_tag : Led (60 ∷ []) (λ c. is_name_start c ≡ true) start_tag

@@ -1,6 +1,6 @@
 -- Which fault kinds are faults, and which of two at one place counts.
 use Rattle.std.specs.Prelude.{ℕ, Bool, true, nat_lt}
-use Rattle.xml_grammar.specs.Answers.{Faults}
+use Rattle.xml_grammar.specs.ParseResults.{FaultRanking}
 use Rattle.xml_tokens.specs.declared.fault_kind.FaultKind.{FaultKind}
 use Rattle.xml_tokens.specs.declared.fault_kind.FaultKind.TheVariants.{Encoded, Doctyped, Depth}
 use Rattle.xml_tokens.specs.declared.fault_kind.FaultKind.TheVariants.{Unbound, Repeated}
@@ -20,5 +20,5 @@ rank Repeated = 2
 rank Encoded = 3
 rank Doctyped = 4
 
-abbrev pub faults : ℕ → Faults FaultKind
-faults limit = record { is_fault = is_fault limit; rank = rank }
+abbrev pub fault_ranking : ℕ → FaultRanking FaultKind
+fault_ranking limit = record { is_fault = is_fault limit; rank = rank }

@@ -10,34 +10,36 @@ use Rattle.xml_names.specs.Characters.{is_name_start}
 use Rattle.xml_tree.specs.Tree.{Content, last, Tree}
 use Rattle.xml_names.specs.declared.names.Name.{Name}
 use Rattle.xml_names.specs.declared.names.Decl.{Decl}
-use Rattle.xml_grammar.specs.Rules.{Rule, never, empty, word, run, sequence, either, many, map_rule}
+use Rattle.xml_grammar.specs.Rules.{Rule, no_text, empty_text, word, char_run, sequence, either}
+use Rattle.xml_grammar.specs.Rules.{many, map_rule}
 use Rattle.xml_grammar.specs.Rules.{with_length, atomic, with_prefix_mark, with_value_marks}
-use Rattle.xml_grammar.specs.Rules.{optional, between}
-use Rattle.xml_grammar.specs.Rules.{keeping_first, keeping_second, quoted}
+use Rattle.xml_grammar.specs.Rules.{optional, between_gaps}
+use Rattle.xml_grammar.specs.Rules.{keep_first, keep_second, quoted}
 use Rattle.xml_tokens.specs.declared.fault_kind.FaultKind.{FaultKind}
 use Rattle.xml_tokens.specs.declared.fault_kind.FaultKind.TheVariants.{Depth}
-use Rattle.xml_markup.specs.Grammar.{dropped, comment, section, instruction, xml_declaration}
-use Rattle.xml_markup.specs.Grammar.{IsForeign, prolog, epilog}
+use Rattle.xml_markup.specs.Grammar.{without_value, comment, cdata_section, processing_instruction}
+use Rattle.xml_markup.specs.Grammar.{xml_declaration}
+use Rattle.xml_markup.specs.Grammar.{MarksUnsupportedEncoding, prolog, epilog}
 use Rattle.tree_text.specs.declared.raw_attribute.RawAttribute.{RawAttribute}
-use Rattle.xml_tokens.specs.Values.{written, value_spelled}
-use Rattle.tree_text.specs.Pieces.{Markup, Reference, Section, Comment, Instruction, Inner}
-use Rattle.tree_text.specs.Pieces.{StartTag, with_pieces}
-use Rattle.tree_text.specs.Names.{IsWrong, element_of, inside_tag}
-use Rattle.xml_tokens.specs.Tokens.{chars, equals, is_quote, is_raw, qname, reference}
-use Rattle.xml_tokens.specs.Tokens.{some_spaces, spaces, value}
+use Rattle.xml_tokens.specs.Values.{qname_text, normalized_value}
+use Rattle.tree_text.specs.ContentPieces.{Markup, Reference, Section, Comment, Instruction, Inner}
+use Rattle.tree_text.specs.ContentPieces.{StartTag, with_pieces}
+use Rattle.tree_text.specs.Names.{IsTagFault, element_of, scope_inside_tag}
+use Rattle.xml_tokens.specs.Tokens.{char_data, equals, is_quote, is_raw_char, qname, reference}
+use Rattle.xml_tokens.specs.Tokens.{required_spaces, spaces, value}
 
 -- ---- tags
 
 -- [41] Attribute: a name, Eq and a value in quotes
 abbrev pub attribute : Rule FaultKind (Name × List ℕ)
-attribute = sequence qname (λ _. keeping_second equals (quoted is_quote value))
+attribute = sequence qname (λ _. keep_second equals (quoted is_quote value))
 
 -- an attribute after white space: its name, its value, how many characters of white space come
 -- before it, and how many it has
 abbrev pub raw_attribute : Rule FaultKind RawAttribute
 raw_attribute =
     map_rule (λ x. record { name = x.1.0.0; value = x.1.0.1; gap = length x.0; size = x.1.1 })
-    (sequence some_spaces (λ _. with_length attribute))
+    (sequence required_spaces (λ _. with_length attribute))
 
 -- `/>` ends an empty element, `>` a start tag
 abbrev pub tag_end : Rule FaultKind Bool
@@ -48,14 +50,14 @@ tag_end = either (map_rule (λ _. true) (word (codes "/>")))
 abbrev pub start_tag : Rule FaultKind StartTag
 start_tag =
     map_rule (λ x. record { name = x.0.0; raw_attribute = x.0.1.0; is_empty = x.0.1.1; size = x.1 })
-    (with_length (keeping_second (word (codes "<"))
-    (sequence qname (λ _. sequence (keeping_first (many raw_attribute) spaces) (λ _. tag_end)))))
+    (with_length (keep_second (word (codes "<"))
+    (sequence qname (λ _. sequence (keep_first (many raw_attribute) spaces) (λ _. tag_end)))))
 
 -- [42] ETag: `</`, the name of the start tag, S?, `>`
 abbrev pub end_tag : Name → Rule FaultKind (Unit {0})
 end_tag n =
-    keeping_second (word (codes "</"))
-    (keeping_second (word (written n)) (keeping_second spaces (word (codes ">"))))
+    keep_second (word (codes "</"))
+    (keep_second (word (qname_text n)) (keep_second spaces (word (codes ">"))))
 
 -- ---- content
 
@@ -64,35 +66,35 @@ end_tag n =
 abbrev pub markup : Rule FaultKind Tree → Rule FaultKind Markup
 markup inner =
     either (map_rule Reference reference)
-    (either (map_rule Section section)
+    (either (map_rule Section cdata_section)
     (either (map_rule Comment comment)
-    (either (map_rule (λ _. Instruction) instruction) (map_rule Inner inner))))
+    (either (map_rule (λ _. Instruction) processing_instruction) (map_rule Inner inner))))
 
 -- [43] content: no two adjacent pieces are runs of characters
 abbrev pub content : Rule FaultKind Tree → Rule FaultKind Content
-content inner = map_rule (λ x. with_pieces (last x.0) x.1) (between chars (markup inner))
+content inner = map_rule (λ x. with_pieces (last x.0) x.1) (between_gaps char_data (markup inner))
 
 -- ---- elements
 
 -- what follows a start tag: content and the end tag; after the tag of an empty element nothing
-abbrev pub after_tag : Rule FaultKind Tree → Name → Bool → Rule FaultKind Content
-after_tag inner n true = empty (last [])
-after_tag inner n false = keeping_first (content inner) (end_tag n)
+abbrev pub element_rest : Rule FaultKind Tree → Name → Bool → Rule FaultKind Content
+element_rest inner n true = empty_text (last [])
+element_rest inner n false = keep_first (content inner) (end_tag n)
 
 -- a start tag's `<`, with the first character of its name
-abbrev pub StartsTag : List ℕ → Type 0
-StartsTag text = (c : ℕ) × (text ≡ codes "<" ++ c ∷ []) × (is_name_start c ≡ true)
+abbrev pub IsTagStart : List ℕ → Type 0
+IsTagStart text = (c : ℕ) × (text ≡ codes "<" ++ c ∷ []) × (is_name_start c ≡ true)
 
 -- [39] element, in the scope around it, at this depth, with fewer than n levels of elements. Its
 -- start marks its depth. Its whole start tag marks its wrong names. Its content is in the scope
 -- of its declarations too.
 abbrev pub element : ℕ → List (List Decl) → ℕ → Rule FaultKind Tree
-element zero scope depth = never
+element zero scope depth = no_text
 element (suc n) scope depth =
-    with_prefix_mark (Depth depth) StartsTag
+    with_prefix_mark (Depth depth) IsTagStart
     (map_rule element_of
-    (sequence (with_value_marks (IsWrong scope) start_tag) (λ t.
-    after_tag (element n (inside_tag scope t) (depth + 1)) t.name t.is_empty)))
+    (sequence (with_value_marks (IsTagFault scope) start_tag) (λ t.
+    element_rest (element n (scope_inside_tag scope t) (depth + 1)) t.name t.is_empty)))
 
 -- ---- documents
 
@@ -100,12 +102,13 @@ element (suc n) scope depth =
 -- element, Misc. A fragment has the same form, in a scope.
 abbrev pub document : ℕ → List (List Decl) → Rule FaultKind Tree
 document n scope =
-    keeping_second (dropped (optional (word (0xFEFF ∷ []))))
-    (keeping_second (dropped (optional (with_value_marks IsForeign xml_declaration)))
-    (keeping_second prolog (keeping_first (element n scope 1) epilog)))
+    keep_second (without_value (optional (word (0xFEFF ∷ []))))
+    (keep_second
+    (without_value (optional (with_value_marks MarksUnsupportedEncoding xml_declaration)))
+    (keep_second prolog (keep_first (element n scope 1) epilog)))
 
 -- ---- bodies that spell a value
 
 -- raw characters and references: a reference that isn't whole isn't a beginning
-abbrev pub spelling : Rule FaultKind (List ℕ)
-spelling = map_rule value_spelled (between (run is_raw) (atomic reference))
+abbrev pub unquoted_value : Rule FaultKind (List ℕ)
+unquoted_value = map_rule normalized_value (between_gaps (char_run is_raw_char) (atomic reference))

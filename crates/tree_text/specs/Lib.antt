@@ -1,6 +1,6 @@
+pub mod ContentPieces
 pub mod FaultKinds
 pub mod Faults
 pub mod Grammar
 pub mod Names
-pub mod Pieces
 pub mod readers

@@ -2,28 +2,30 @@
 //! 15.2.2).
 ghost use Rattle.std.specs.Prelude.{◌≡◌, option_map, IfOk, IsTrue, Ok};
 ghost use Rattle.std.specs.Str.{chars};
-ghost use Rattle.xml_grammar.specs.readers.Functions.{read_whole};
-ghost use Rattle.xml_names.specs.Characters.{all_chars};
-ghost use Rattle.tree_text.specs.Faults.{BodyAnswer, all_but_one, in_quotes, spelling_of};
-ghost use Rattle.tree_text.specs.Faults.{closing_len};
-ghost use Rattle.xml_tokens.specs.readers.Results.{Gives, GivesAll};
+ghost use Rattle.xml_grammar.specs.readers.RuleReaders.{read_whole_text};
+ghost use Rattle.xml_names.specs.Characters.{has_only_chars};
+ghost use Rattle.tree_text.specs.Faults.{IsBodyResult, front_before_one_char, strip_quotes};
+ghost use Rattle.tree_text.specs.Faults.{unquoted_body};
+ghost use Rattle.tree_text.specs.Faults.{closing_quote_len};
+ghost use Rattle.xml_tokens.specs.readers.ReadResults.{IsSameResult, IsSameWholeResult};
 ghost use Rattle.xml_tokens.specs.Tokens.{is_quote};
-ghost use Rattle.xml_names.specs.Memory.{Answered};
-ghost use Rattle.tree_text.specs.readers.Texts.{read_spelling, read_plain, read_whole_reference};
-ghost use Rattle.tree_text.specs.readers.Whole.{BodyFaultOf, read_body_text};
+ghost use Rattle.xml_names.specs.ReadErrors.{ResultSatisfies};
+ghost use Rattle.tree_text.specs.readers.Texts.{read_unquoted_value, read_raw_chars};
+ghost use Rattle.tree_text.specs.readers.Texts.{read_whole_reference};
+ghost use Rattle.tree_text.specs.readers.WholeTexts.{IsBodyErrorOfStop, read_body_text};
 
 use crate::fault::ValueFault;
 use std::alloc::Global;
-use xml_grammar::{is_over, split_first};
+use xml_grammar::{is_at_end, split_first};
 use xml_names::{ReadError, Text};
 use xml_tokens::{
-    Class, ParseError, is_quote, no_text, place, push_piece, push_raw, reference,
-    reference_follows, run,
+    Class, ParseError, empty_text, is_quote, push_raw, push_reference_piece, reference,
+    reference_follows, rest_offset, run,
 };
 
 /// A reference, read whole or not at all, and what follows it.
 fn whole_reference(text: &str) -> Result<(char, &str), ParseError<'_>>
-    ensures reads_rule { Gives (λ x. (x.0, chars x.1.now)) result
+    ensures reads_rule { IsSameResult (λ x. (x.0, chars x.1.now)) result
         (read_whole_reference (chars text.now)) }
 {
     match reference(text) {
@@ -35,18 +37,20 @@ fn whole_reference(text: &str) -> Result<(char, &str), ParseError<'_>>
 }
 
 /// Raw characters, possibly none, and what follows them.
-fn plain(text: &str) -> (&str, &str)
-    ensures reads_rule { read_plain (chars text.now) ≡ Ok (chars result.0.now, chars result.1.now) }
+fn raw_chars(text: &str) -> (&str, &str)
+    ensures reads_rule { read_raw_chars (chars text.now)
+        ≡ Ok (chars result.0.now, chars result.1.now) }
 {
     run(text, Class::Raw)
 }
 
 /// The value that a spelling spells, and what follows it.
 fn read_body_value(alloc: Global, text: &str) -> Result<(Text, &str), ParseError<'_>>
-    ensures reads_rule { Gives (λ x. (x.0, chars x.1.now)) result (read_spelling (chars text.now)) }
+    ensures reads_rule { IsSameResult (λ x. (x.0, chars x.1.now)) result
+        (read_unquoted_value (chars text.now)) }
 {
-    let mut value = no_text(alloc);
-    let (first, start) = plain(text);
+    let mut value = empty_text(alloc);
+    let (first, start) = raw_chars(text);
     push_raw(&mut value, first)?;
     let mut rest = start;
     for _ in 0..start.len() {
@@ -54,28 +58,29 @@ fn read_body_value(alloc: Global, text: &str) -> Result<(Text, &str), ParseError
             break;
         }
         let (c, after) = whole_reference(rest)?;
-        let (more, after) = plain(after);
-        push_piece(&mut value, c, more)?;
+        let (more, after) = raw_chars(after);
+        push_reference_piece(&mut value, c, more)?;
         rest = after;
     }
     Ok((value, rest))
 }
 
 /// The value that all of a spelling spells.
-fn whole_spelling(alloc: Global, text: &str) -> Result<Text, ParseError<'_>>
-    ensures grammar_answer { GivesAll result (read_whole read_spelling (chars text.now)) }
+fn whole_unquoted_value(alloc: Global, text: &str) -> Result<Text, ParseError<'_>>
+    ensures grammar_answer { IsSameWholeResult result
+        (read_whole_text read_unquoted_value (chars text.now)) }
 {
     let (value, rest) = read_body_value(alloc, text)?;
-    if !is_over(rest) {
+    if !is_at_end(rest) {
         return Err(ParseError::Syntax(rest));
     }
     Ok(value)
 }
 
 /// The first of two parts of a text, if the second is exactly one character.
-fn all_but_one<'a>(front: &'a str, last: &str) -> Option<&'a str>
+fn front_before_one_char<'a>(front: &'a str, last: &str) -> Option<&'a str>
     ensures exact { option_map (λ x. chars x.now) result
-        ≡ all_but_one (chars front.now) (chars last.now) }
+        ≡ front_before_one_char (chars front.now) (chars last.now) }
 {
     match split_first(last) {
         Some((_, more)) => match split_first(more) {
@@ -87,8 +92,8 @@ fn all_but_one<'a>(front: &'a str, last: &str) -> Option<&'a str>
 }
 
 /// The inside of a body between two quotes of one kind.
-fn in_quotes(body: &str) -> Option<&str>
-    ensures exact { option_map (λ inside. chars inside.now) result ≡ in_quotes (chars body.now) }
+fn strip_quotes(body: &str) -> Option<&str>
+    ensures exact { option_map (λ inside. chars inside.now) result ≡ strip_quotes (chars body.now) }
 {
     match split_first(body) {
         Some((quote, rest)) => {
@@ -96,18 +101,18 @@ fn in_quotes(body: &str) -> Option<&str>
                 return None;
             }
             let (inside, after) = run(rest, Class::Other(quote));
-            all_but_one(inside, after)
+            front_before_one_char(inside, after)
         }
         None => None,
     }
 }
 
 /// The part of a body that spells its value, and how many bytes follow it.
-fn spelling_of(body: &str) -> (&str, usize)
-    ensures spelled_part { chars result.0.now ≡ spelling_of (chars body.now) }
-    ensures closing_length { result.1 ≡ closing_len (in_quotes (chars body.now)) }
+fn unquoted_body(body: &str) -> (&str, usize)
+    ensures spelled_part { chars result.0.now ≡ unquoted_body (chars body.now) }
+    ensures closing_length { result.1 ≡ closing_quote_len (strip_quotes (chars body.now)) }
 {
-    match in_quotes(body) {
+    match strip_quotes(body) {
         Some(inside) => (inside, 1),
         None => (body, 0),
     }
@@ -115,14 +120,14 @@ fn spelling_of(body: &str) -> (&str, usize)
 
 /// The error for a stop in a body of these bytes, whose spelling is followed by `behind` bytes.
 fn error(bytes: &[u8], stop: ParseError<'_>, behind: usize) -> ReadError<ValueFault>
-    ensures body_fault { BodyFaultOf bytes.now behind stop.entry result }
+    ensures body_fault { IsBodyErrorOfStop bytes.now behind stop.entry result }
 {
     match stop {
         ParseError::Syntax(rest) => {
-            ReadError::Fault(ValueFault::NotValue(place(bytes, rest).saturating_sub(behind)))
+            ReadError::Fault(ValueFault::NotValue(rest_offset(bytes, rest).saturating_sub(behind)))
         }
         ParseError::Faulty(_, rest) => {
-            ReadError::Fault(ValueFault::NotValue(place(bytes, rest).saturating_sub(behind)))
+            ReadError::Fault(ValueFault::NotValue(rest_offset(bytes, rest).saturating_sub(behind)))
         }
         ParseError::Memory => ReadError::NoMemory,
     }
@@ -135,21 +140,21 @@ fn error(bytes: &[u8], stop: ParseError<'_>, behind: usize) -> ReadError<ValueFa
 /// `NotUtf8` where the bytes aren't UTF-8; else `NotValue` at the first `<`, `&` that begins no
 /// reference, or character that isn't a Char; `NoMemory` when out of memory.
 pub fn read_att_value(alloc: Global, bytes: &[u8]) -> Result<Text, ReadError<ValueFault>>
-    ensures grammar_answer { Answered (BodyAnswer bytes.now) result }
-    ensures allowed_chars { IfOk result (λ value. IsTrue (all_chars value)) }
+    ensures grammar_answer { ResultSatisfies (IsBodyResult bytes.now) result }
+    ensures allowed_chars { IfOk result (λ value. IsTrue (has_only_chars value)) }
 {
     read_body(alloc, bytes)
 }
 
 /// The value that the bytes of a body spell.
 fn read_body(alloc: Global, bytes: &[u8]) -> Result<Text, ReadError<ValueFault>>
-    ensures grammar_answer { Answered (λ answer. answer ≡ read_body_text bytes.now) result }
+    ensures grammar_answer { ResultSatisfies (λ answer. answer ≡ read_body_text bytes.now) result }
 {
     let Ok(text) = str::from_utf8(bytes) else {
         return Err(ReadError::Fault(ValueFault::NotUtf8));
     };
-    let (part, behind) = spelling_of(text);
-    match whole_spelling(alloc, part) {
+    let (part, behind) = unquoted_body(text);
+    match whole_unquoted_value(alloc, part) {
         Ok(value) => Ok(value),
         Err(stop) => Err(error(bytes, stop, behind)),
     }

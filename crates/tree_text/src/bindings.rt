@@ -1,8 +1,8 @@
 //! The declarations of the open elements, and the namespaces that they bind.
 ghost use Rattle.std.specs.Prelude.{◌≡◌, ◌++◌, ◌<◌, ◌∷◌, [], option_map, Some, IfOk, OnOk, length};
-ghost use Rattle.xml_names.specs.Scopes.{bound};
+ghost use Rattle.xml_names.specs.Scopes.{bound_uri};
 ghost use Rattle.xml_names.specs.declared.names.Decl.{Decl};
-ghost use Rattle.tree_text.specs.readers.Bindings.{AreOpenNamespaces, lists, number};
+ghost use Rattle.tree_text.specs.readers.Bindings.{AreOpenNamespaces, lists, namespace_number};
 
 use crate::namespaces::Namespaces;
 use std::alloc::{AllocError, Global};
@@ -63,7 +63,7 @@ impl Bindings {
         ensures lists_in_step { AreOpenNamespaces self.new }
     {
         let decls = self.open.pop().unwrap();
-        self.namespaces.forget_all(&decls);
+        self.namespaces.undeclare_all(&decls);
         decls
     }
 
@@ -72,8 +72,9 @@ impl Bindings {
     pub fn namespace(&self, prefix: &Prefix) -> Option<usize>
         requires { AreOpenNamespaces self.now }
         ensures exact { option_map Some result
-            ≡ option_map (number self.now.namespaces) (bound (lists self.now) prefix.now) }
+            ≡ option_map (namespace_number self.now.namespaces)
+            (bound_uri (lists self.now) prefix.now) }
     {
-        self.namespaces.of_prefix(prefix)
+        self.namespaces.number_of_prefix(prefix)
     }
 }

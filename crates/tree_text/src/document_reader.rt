@@ -1,24 +1,24 @@
 //! Reading documents, fragments and bodies.
 ghost use Rattle.std.specs.Prelude.{◌≡◌, ◌+◌, ◌≤◌, length, [], IfOk};
 ghost use Rattle.std.specs.Str.{chars};
-ghost use Rattle.xml_grammar.specs.readers.Functions.{read_whole};
+ghost use Rattle.xml_grammar.specs.readers.RuleReaders.{read_whole_text};
 ghost use Rattle.xml_tree.specs.declared.scope.TheConstants.{SCOPE_LIMIT};
-ghost use Rattle.xml_tree.specs.Proper.{ProperIn};
+ghost use Rattle.xml_tree.specs.Proper.{IsProperTree};
 ghost use Rattle.xml_tree.specs.Tree.{height};
-ghost use Rattle.tree_text.specs.Faults.{TextAnswer};
-ghost use Rattle.xml_tokens.specs.readers.Results.{Gives, GivesAll};
-ghost use Rattle.xml_names.specs.Memory.{Answered};
+ghost use Rattle.tree_text.specs.Faults.{IsTextResult};
+ghost use Rattle.xml_tokens.specs.readers.ReadResults.{IsSameResult, IsSameWholeResult};
+ghost use Rattle.xml_names.specs.ReadErrors.{ResultSatisfies};
 ghost use Rattle.tree_text.specs.readers.Texts.{read_element, read_text};
-ghost use Rattle.tree_text.specs.readers.Whole.{FaultOf, read_document_text};
+ghost use Rattle.tree_text.specs.readers.WholeTexts.{IsErrorOfStop, read_document_text};
 
 use crate::bindings::Bindings;
 use crate::elements::element;
 use crate::fault::TextFault;
 use std::alloc::Global;
-use xml_grammar::is_over;
-use xml_markup::{declaration_if, epilog, mark_if, prolog};
+use xml_grammar::is_at_end;
+use xml_markup::{epilog, optional_declaration, prolog, skip_bom};
 use xml_names::ReadError;
-use xml_tokens::{FaultKind, ParseError, place};
+use xml_tokens::{FaultKind, ParseError, rest_offset};
 use xml_tree::{Element, Scope};
 
 /// The root element that a text begins with, with at most this many levels, and what follows it.
@@ -29,7 +29,7 @@ fn root_element<'a>(
     depth: usize,
 ) -> Result<(Element, &'a str), ParseError<'a>>
     requires { length scope.now + depth ≤ SCOPE_LIMIT }
-    ensures reads_rule { Gives (λ x. (x.0, chars x.1.now)) result
+    ensures reads_rule { IsSameResult (λ x. (x.0, chars x.1.now)) result
         (read_element depth scope.now 1 (chars text.now)) }
 {
     let mut bindings = Bindings::from_scope(alloc, scope)?;
@@ -46,15 +46,15 @@ fn root<'a>(
     depth: usize,
 ) -> Result<Element, ParseError<'a>>
     requires { length scope.now + depth ≤ SCOPE_LIMIT }
-    ensures grammar_answer { GivesAll result
-        (read_whole (read_text depth scope.now) (chars text.now)) }
+    ensures grammar_answer { IsSameWholeResult result
+        (read_whole_text (read_text depth scope.now) (chars text.now)) }
 {
-    let rest = mark_if(text);
-    let rest = declaration_if(rest)?;
+    let rest = skip_bom(text);
+    let rest = optional_declaration(rest)?;
     let rest = prolog(rest)?;
     let (root, rest) = root_element(alloc, rest, scope, depth)?;
     let rest = epilog(rest)?;
-    if !is_over(rest) {
+    if !is_at_end(rest) {
         drop(root);
         return Err(ParseError::Syntax(rest));
     }
@@ -63,16 +63,18 @@ fn root<'a>(
 
 /// The error for a stop, in the text of these bytes.
 fn error(bytes: &[u8], stop: ParseError<'_>) -> ReadError<TextFault>
-    ensures text_fault { FaultOf bytes.now stop.entry result }
+    ensures text_fault { IsErrorOfStop bytes.now stop.entry result }
 {
     match stop {
-        ParseError::Syntax(rest) => ReadError::Fault(TextFault::NotWellFormed(place(bytes, rest))),
+        ParseError::Syntax(rest) => ReadError::Fault(TextFault::NotWellFormed(rest_offset(
+            bytes, rest,
+        ))),
         ParseError::Faulty(kind, rest) => ReadError::Fault(match kind {
             FaultKind::Encoded => TextFault::NotUtf8,
-            FaultKind::Doctyped => TextFault::Doctype(place(bytes, rest)),
-            FaultKind::Depth(_) => TextFault::TooDeep(place(bytes, rest)),
-            FaultKind::Unbound => TextFault::Namespace(place(bytes, rest)),
-            FaultKind::Repeated => TextFault::RepeatedAttribute(place(bytes, rest)),
+            FaultKind::Doctyped => TextFault::Doctype(rest_offset(bytes, rest)),
+            FaultKind::Depth(_) => TextFault::TooDeep(rest_offset(bytes, rest)),
+            FaultKind::Unbound => TextFault::Namespace(rest_offset(bytes, rest)),
+            FaultKind::Repeated => TextFault::RepeatedAttribute(rest_offset(bytes, rest)),
         }),
         ParseError::Memory => ReadError::NoMemory,
     }
@@ -86,7 +88,7 @@ fn read(
     depth: usize,
 ) -> Result<Element, ReadError<TextFault>>
     requires { length scope.now + depth ≤ SCOPE_LIMIT }
-    ensures grammar_answer { Answered
+    ensures grammar_answer { ResultSatisfies
         (λ answer. answer ≡ read_document_text depth scope.now bytes.now) result }
 {
     let Ok(text) = str::from_utf8(bytes) else {
@@ -110,8 +112,8 @@ pub fn read_document(
 ) -> Result<Element, ReadError<TextFault>>
     requires lower_bound { 1 ≤ depth }
     requires upper_bound { depth ≤ SCOPE_LIMIT }
-    ensures grammar_answer { Answered (TextAnswer depth [] bytes.now) result }
-    ensures is_proper { IfOk result (λ tree. ProperIn [] tree × (height tree ≤ depth)) }
+    ensures grammar_answer { ResultSatisfies (IsTextResult depth [] bytes.now) result }
+    ensures is_proper { IfOk result (λ tree. IsProperTree [] tree × (height tree ≤ depth)) }
 {
     read(alloc, bytes, &Scope::empty(), depth)
 }
@@ -129,8 +131,8 @@ pub fn read_fragment(
     depth: usize,
 ) -> Result<Element, ReadError<TextFault>>
     requires { length scope.now + depth ≤ SCOPE_LIMIT }
-    ensures grammar_answer { Answered (TextAnswer depth scope.now bytes.now) result }
-    ensures is_proper { IfOk result (λ tree. ProperIn scope.now tree × (height tree ≤ depth)) }
+    ensures grammar_answer { ResultSatisfies (IsTextResult depth scope.now bytes.now) result }
+    ensures is_proper { IfOk result (λ tree. IsProperTree scope.now tree × (height tree ≤ depth)) }
 {
     read(alloc, bytes, scope, depth)
 }

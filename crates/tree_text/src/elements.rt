@@ -1,35 +1,36 @@
 //! Elements: their start tags, their content, and the elements in it, within a depth limit.
 ghost use Rattle.std.specs.Prelude.{◌≡◌, ◌==◌, ◌||◌, ◌+◌, ◌≤◌, ◌<◌, ◌++◌, true, [], ◌∷◌, chars};
 ghost use Rattle.std.specs.Prelude.{IfOk, OnOk, Ok, Err};
-ghost use Rattle.xml_grammar.specs.TextReading.{Reader, head_is};
-ghost use Rattle.xml_grammar.specs.readers.Functions.{judgement};
+ghost use Rattle.xml_grammar.specs.TextReading.{Reader, first_char_is};
+ghost use Rattle.xml_grammar.specs.readers.RuleReaders.{value_or_fault};
 ghost use Rattle.xml_tree.specs.Edits.{with_text};
 ghost use Rattle.xml_tree.specs.Tree.{Tree, last, tree_of};
 ghost use Rattle.xml_tokens.specs.declared.fault_kind.FaultKind.{FaultKind};
-ghost use Rattle.tree_text.specs.readers.Bindings.{AreBack, AreOpenNamespaces, lists};
-ghost use Rattle.xml_tokens.specs.readers.Results.{Gives, Fails};
-ghost use Rattle.tree_text.specs.readers.Members.{read_chars_onto, read_onto, read_child};
-ghost use Rattle.tree_text.specs.readers.Members.{read_filled, read_filled_after};
+ghost use Rattle.tree_text.specs.readers.Bindings.{HasSameOpenElements, AreOpenNamespaces, lists};
+ghost use Rattle.xml_tokens.specs.readers.ReadResults.{IsSameResult, IsSameStop};
+ghost use Rattle.tree_text.specs.readers.ContentReaders.{read_chars_onto, read_markup_onto};
+ghost use Rattle.tree_text.specs.readers.ContentReaders.{read_child};
+ghost use Rattle.tree_text.specs.readers.ContentReaders.{read_tree_content, read_tree_after_tag};
 ghost use Rattle.tree_text.specs.Names.{attrs_of};
-ghost use Rattle.tree_text.specs.readers.TagNameFaults.{counted_back, first_of_tag};
-ghost use Rattle.xml_tokens.specs.readers.Runs.{ends_run};
-ghost use Rattle.tree_text.specs.readers.Texts.{markup_follows, other_follows, read_tag};
+ghost use Rattle.tree_text.specs.readers.TagNameFaults.{counted_from_end, first_tag_fault};
+ghost use Rattle.xml_tokens.specs.readers.CharacterRuns.{ends_run};
+ghost use Rattle.tree_text.specs.readers.Texts.{markup_follows, non_element_follows, read_tag};
 ghost use Rattle.tree_text.specs.readers.Texts.{read_element};
-ghost use Rattle.xml_tokens.specs.readers.TokenViews.{name_in};
-ghost use Rattle.tree_text.specs.readers.Views.{tag_in};
+ghost use Rattle.xml_tokens.specs.readers.TokenViews.{raw_name_view};
+ghost use Rattle.tree_text.specs.readers.Views.{tag_view};
 
 use crate::bindings::Bindings;
-use crate::empty_elements::push_bare;
-use crate::names::{declares, decls_of, first_of_tag};
+use crate::empty_elements::push_empty_element;
+use crate::names::{declares_namespace, decls_of, first_tag_fault};
 use crate::raw_attribute::RawAttribute;
-use crate::start_tags::{RawStartTag, whole_tag};
+use crate::start_tags::{RawStartTag, read_whole_tag};
 use std::alloc::{AllocError, Global};
-use xml_grammar::{are_next, count, is_either_next, is_first, is_next, split_first};
-use xml_markup::{comment, instruction, section};
+use xml_grammar::{are_both_next, count, is_either_next, is_next, split_first, starts_with_char};
+use xml_markup::{cdata_section, comment, processing_instruction};
 use xml_names::{Attr, Decl, Name, Text};
 use xml_tokens::{
-    Class, FaultKind, ParseError, before, content_run, end_tag, lines, owned_name, reference, run,
-    starts, starts_with_name, text_of,
+    Class, FaultKind, ParseError, content_run, end_tag, normalize_lines, reference, rest_before,
+    run, starts_with_name, starts_with_word, text_of, to_owned_name,
 };
 use xml_tree::{Element, last_elem};
 
@@ -44,23 +45,26 @@ fn check_tag_names<'a>(
     start_tag: &RawStartTag<'_>,
 ) -> Result<(), ParseError<'a>>
     requires namespaces_in_step { AreOpenNamespaces here.now }
-    requires name_matches { name.now ≡ name_in start_tag.now.written }
+    requires name_matches { name.now ≡ raw_name_view start_tag.now.written }
     requires tag_read { read_tag (chars text.now)
-        ≡ Ok
-        (tag_in (chars text.now) start_tag.now raw_attribute.now, chars start_tag.now.behind.now) }
-    ensures judged_names { Gives
+        ≡ Ok (
+          tag_view
+              (chars text.now) start_tag.now raw_attribute.now,
+          chars start_tag.now.behind.now,
+        ) }
+    ensures judged_names { IsSameResult
         (λ _.
-        (tag_in (chars text.now) start_tag.now raw_attribute.now, chars start_tag.now.behind.now))
+        (tag_view (chars text.now) start_tag.now raw_attribute.now, chars start_tag.now.behind.now))
         result
-        (judgement (chars text.now)
-        (tag_in (chars text.now) start_tag.now raw_attribute.now, chars start_tag.now.behind.now)
-        (counted_back (tag_in (chars text.now) start_tag.now raw_attribute.now).size
-        (first_of_tag (lists here.now)
-        (tag_in (chars text.now) start_tag.now raw_attribute.now)))) }
+        (value_or_fault (chars text.now)
+        (tag_view (chars text.now) start_tag.now raw_attribute.now, chars start_tag.now.behind.now)
+        (counted_from_end (tag_view (chars text.now) start_tag.now raw_attribute.now).size
+        (first_tag_fault (lists here.now)
+        (tag_view (chars text.now) start_tag.now raw_attribute.now)))) }
 {
-    if let Some((kind, at)) = first_of_tag(alloc, here, name, raw_attribute, start_tag)? {
+    if let Some((kind, at)) = first_tag_fault(alloc, here, name, raw_attribute, start_tag)? {
         let size = count(text).saturating_sub(count(start_tag.behind));
-        let place = before(text, start_tag.behind, size.saturating_sub(at));
+        let place = rest_before(text, start_tag.behind, size.saturating_sub(at));
         return Err(ParseError::Faulty(kind, place));
     }
     Ok(())
@@ -69,10 +73,10 @@ fn check_tag_names<'a>(
 /// Reserves capacity for exactly one node where the content ends before this rest of the text:
 /// most elements have one node or none.
 #[inline(always)]
-fn room_before(element: &mut Element, rest: &str) -> Result<(), AllocError>
+fn reserve_node_before(element: &mut Element, rest: &str) -> Result<(), AllocError>
     ensures changes_nothing { element.new ≡ element.old }
 {
-    if are_next(rest, '<', '/') {
+    if are_both_next(rest, '<', '/') {
         return element.reserve_node();
     }
     Ok(())
@@ -83,7 +87,7 @@ fn push_plain(element: &mut Element, plain: Text, rest: &str) -> Result<(), Allo
     ensures appends_chars { OnOk result
         (element.new ≡ record element.old { content = with_text plain element.old.content }) }
 {
-    room_before(element, rest)?;
+    reserve_node_before(element, rest)?;
     element.push_text(plain)
 }
 
@@ -113,14 +117,18 @@ fn push_mixed<'a>(
         (λ rest. read_chars_onto element.old (chars text.now) ≡ Ok (element.new, chars rest.now)) }
 {
     let (run, rest) = content_run(text);
-    element.push_text(lines(alloc, run)?)?;
+    element.push_text(normalize_lines(alloc, run)?)?;
     Ok(rest)
 }
 
 /// Appends a run of raw characters, if there is one. Most runs are plain, and are copied as they
 /// are.
 #[inline(never)]
-fn push_some<'a>(alloc: Global, text: &'a str, element: &mut Element) -> Result<&'a str, AllocError>
+fn push_non_empty_run<'a>(
+    alloc: Global,
+    text: &'a str,
+    element: &mut Element,
+) -> Result<&'a str, AllocError>
     ensures reads_onto { IfOk result
         (λ rest. read_chars_onto element.old (chars text.now) ≡ Ok (element.new, chars rest.now)) }
 {
@@ -142,7 +150,7 @@ fn push_run<'a>(alloc: Global, text: &'a str, element: &mut Element) -> Result<&
     if run_ends(text) {
         return Ok(text);
     }
-    push_some(alloc, text, element)
+    push_non_empty_run(alloc, text, element)
 }
 
 /// Appends declarations to an element. Most have none.
@@ -181,7 +189,7 @@ fn push_raw_attribute(
           attrs = element.old.attrs ++ attrs_of (raw_attribute.entry ∷ []);
         }) }
 {
-    if declares(&raw_attribute.name) {
+    if declares_namespace(&raw_attribute.name) {
         return Ok(());
     }
     let RawAttribute {
@@ -233,7 +241,7 @@ fn push_attrs(
 /// Whether a reference or a `<` follows.
 #[inline(always)]
 fn starts_markup(text: &str) -> bool
-    ensures exact { result ≡ head_is (λ c. c == 38 || c == 60) (chars text.now) }
+    ensures exact { result ≡ first_char_is (λ c. c == 38 || c == 60) (chars text.now) }
 {
     is_either_next(text, '&', '<')
 }
@@ -246,12 +254,12 @@ fn markup_follows(text: &str) -> bool
     if !starts_markup(text) {
         return false;
     }
-    !are_next(text, '<', '/')
+    !are_both_next(text, '<', '/')
 }
 
 /// Why no element is read where no level is left: it is too deep, or there is none.
-fn no_level(text: &str, depth: usize) -> ParseError<'_>
-    ensures fails_too_deep { Fails result (read_element 0 [] depth (chars text.now)) }
+fn level_error(text: &str, depth: usize) -> ParseError<'_>
+    ensures fails_too_deep { IsSameStop result (read_element 0 [] depth (chars text.now)) }
 {
     match split_first(text) {
         Some((first, rest)) => {
@@ -269,41 +277,41 @@ fn no_level(text: &str, depth: usize) -> ParseError<'_>
 
 /// Whether markup other than an element follows.
 #[inline(always)]
-fn other_follows(text: &str) -> bool
-    ensures exact { result ≡ other_follows (chars text.now) }
+fn non_element_follows(text: &str) -> bool
+    ensures exact { result ≡ non_element_follows (chars text.now) }
 {
-    is_next(text, '&') || are_next(text, '<', '!') || are_next(text, '<', '?')
+    is_next(text, '&') || are_both_next(text, '<', '!') || are_both_next(text, '<', '?')
 }
 
 /// Appends a piece of markup that isn't an element to content, and returns what follows it. Most
 /// markup is elements.
 #[inline(never)]
-fn push_other<'a>(
+fn push_non_element<'a>(
     alloc: Global,
     text: &'a str,
     element: &mut Element,
 ) -> Result<&'a str, ParseError<'a>>
-    requires { other_follows (chars text.now) ≡ true }
+    requires { non_element_follows (chars text.now) ≡ true }
     ensures reads_onto { (inner : Reader FaultKind Tree)
-        → Gives (λ rest. (element.new, chars rest.now)) result
-        (read_onto element.old inner (chars text.now)) }
+        → IsSameResult (λ rest. (element.new, chars rest.now)) result
+        (read_markup_onto element.old inner (chars text.now)) }
 {
-    if is_first(text, '&') {
+    if starts_with_char(text, '&') {
         let (c, rest) = reference(text)?;
         push_char(alloc, element, c)?;
         return Ok(rest);
     }
-    if starts(text, &['<', '!', '[']) {
-        let (chars, rest) = section(alloc, text)?;
+    if starts_with_word(text, &['<', '!', '[']) {
+        let (chars, rest) = cdata_section(alloc, text)?;
         element.push_text(chars)?;
         return Ok(rest);
     }
-    if starts(text, &['<', '!']) {
+    if starts_with_word(text, &['<', '!']) {
         let (chars, rest) = comment(alloc, text)?;
         element.push_comment(chars)?;
         return Ok(rest);
     }
-    let rest = instruction(text)?;
+    let rest = processing_instruction(text)?;
     Ok(rest)
 }
 
@@ -322,12 +330,13 @@ fn push_markup<'a>(
 ) -> Result<&'a str, ParseError<'a>>
     requires namespaces_in_step { AreOpenNamespaces bindings.old }
     requires depth_bounded { depth + levels ≤ 1000 }
-    ensures reads_rule { Gives (λ rest. (element.new, chars rest.now)) result
-        (read_onto element.old (read_element levels (lists bindings.old) depth) (chars text.now)) }
-    ensures bindings_restored { OnOk result (AreBack bindings.old bindings.new) }
+    ensures reads_rule { IsSameResult (λ rest. (element.new, chars rest.now)) result
+        (read_markup_onto element.old (read_element levels (lists bindings.old) depth)
+        (chars text.now)) }
+    ensures bindings_restored { OnOk result (HasSameOpenElements bindings.old bindings.new) }
 {
-    if other_follows(text) {
-        return push_other(alloc, text, element);
+    if non_element_follows(text) {
+        return push_non_element(alloc, text, element);
     }
     read_child_into(alloc, text, bindings, depth, levels, raw_attribute, element)
 }
@@ -347,10 +356,10 @@ fn content<'a>(
     requires namespaces_in_step { AreOpenNamespaces bindings.old }
     requires depth_bounded { depth + levels ≤ 1000 }
     requires empty { element.old.content ≡ last [] }
-    ensures reads_rule { Gives (λ rest. (element.new, chars rest.now)) result
-        (read_filled element.old (read_element levels (lists bindings.old) depth)
+    ensures reads_rule { IsSameResult (λ rest. (element.new, chars rest.now)) result
+        (read_tree_content element.old (read_element levels (lists bindings.old) depth)
         (chars text.now)) }
-    ensures bindings_restored { OnOk result (AreBack bindings.old bindings.new) }
+    ensures bindings_restored { OnOk result (HasSameOpenElements bindings.old bindings.new) }
 {
     let start = push_run(alloc, text, element)?;
     let mut rest = start;
@@ -368,7 +377,7 @@ fn content<'a>(
 /// follows.
 #[inline(always)]
 #[cycle(nested)]
-fn after_tag<'a>(
+fn element_rest<'a>(
     alloc: Global,
     bindings: &mut Bindings,
     depth: usize,
@@ -380,10 +389,11 @@ fn after_tag<'a>(
     requires namespaces_in_step { AreOpenNamespaces bindings.old }
     requires depth_bounded { depth + levels ≤ 1000 }
     requires empty { element.old.content ≡ last [] }
-    ensures reads_rule { Gives (λ rest. (element.new, chars rest.now)) result
-        (read_filled_after element.old (read_element levels (lists bindings.old) depth)
-        (name_in start_tag.now.written) start_tag.now.is_empty (chars start_tag.now.behind.now)) }
-    ensures bindings_restored { OnOk result (AreBack bindings.old bindings.new) }
+    ensures reads_rule { IsSameResult (λ rest. (element.new, chars rest.now)) result
+        (read_tree_after_tag element.old (read_element levels (lists bindings.old) depth)
+        (raw_name_view start_tag.now.written) start_tag.now.is_empty
+        (chars start_tag.now.behind.now)) }
+    ensures bindings_restored { OnOk result (HasSameOpenElements bindings.old bindings.new) }
 {
     if start_tag.is_empty {
         return Ok(start_tag.behind);
@@ -405,7 +415,7 @@ fn after_tag<'a>(
 /// and returns what follows the end tag.
 #[inline(always)]
 #[cycle(nested)]
-fn fill<'a>(
+fn fill_element<'a>(
     alloc: Global,
     text: &'a str,
     bindings: &mut Bindings,
@@ -419,13 +429,13 @@ fn fill<'a>(
     requires depth_bounded { depth + inner < 1000 }
     requires tag_read { read_tag (chars text.now)
         ≡ Ok (
-          tag_in (chars text.now) start_tag.now raw_attribute.old.items,
+          tag_view (chars text.now) start_tag.now raw_attribute.old.items,
           chars start_tag.now.behind.now,
         ) }
-    requires bare { element.old ≡ tree_of (name_in start_tag.now.written) [] [] (last []) }
-    ensures reads_rule { Gives (λ rest. (element.new, chars rest.now)) result
+    requires bare { element.old ≡ tree_of (raw_name_view start_tag.now.written) [] [] (last []) }
+    ensures reads_rule { IsSameResult (λ rest. (element.new, chars rest.now)) result
         (read_element (inner + 1) (lists bindings.old) depth (chars text.now)) }
-    ensures bindings_restored { OnOk result (AreBack bindings.old bindings.new) }
+    ensures bindings_restored { OnOk result (HasSameOpenElements bindings.old bindings.new) }
 {
     let all = raw_attribute.as_slice();
     let decls = decls_of(alloc, all)?;
@@ -433,7 +443,7 @@ fn fill<'a>(
     bindings.enter(alloc, decls)?;
     check_tag_names(alloc, text, bindings, element.name(), all, start_tag)?;
     push_attrs(element, raw_attribute, attrs)?;
-    let rest = after_tag(
+    let rest = element_rest(
         alloc,
         bindings,
         depth + 1,
@@ -462,18 +472,18 @@ fn read_child_into<'a>(
 ) -> Result<&'a str, ParseError<'a>>
     requires namespaces_in_step { AreOpenNamespaces bindings.old }
     requires depth_bounded { depth + levels ≤ 1000 }
-    ensures reads_rule { Gives (λ rest. (parent.new, chars rest.now)) result
+    ensures reads_rule { IsSameResult (λ rest. (parent.new, chars rest.now)) result
         (read_child parent.old (read_element levels (lists bindings.old) depth) (chars text.now)) }
-    ensures bindings_restored { OnOk result (AreBack bindings.old bindings.new) }
+    ensures bindings_restored { OnOk result (HasSameOpenElements bindings.old bindings.new) }
 {
     let Some(inner) = levels.checked_sub(1) else {
-        return Err(no_level(text, depth));
+        return Err(level_error(text, depth));
     };
-    let start_tag = whole_tag(alloc, text, raw_attribute)?;
+    let start_tag = read_whole_tag(alloc, text, raw_attribute)?;
     let mut nodes = parent.take_nodes();
-    push_bare(alloc, &mut nodes, &start_tag)?;
+    push_empty_element(alloc, &mut nodes, &start_tag)?;
     let child = last_elem(&mut nodes);
-    let rest = fill(
+    let rest = fill_element(
         alloc,
         text,
         bindings,
@@ -490,9 +500,9 @@ fn read_child_into<'a>(
 /// The empty element of a start tag.
 fn empty_element(alloc: Global, start_tag: &RawStartTag<'_>) -> Result<Element, AllocError>
     ensures bare { IfOk result
-        (λ made. made ≡ tree_of (name_in start_tag.now.written) [] [] (last [])) }
+        (λ made. made ≡ tree_of (raw_name_view start_tag.now.written) [] [] (last [])) }
 {
-    let name = owned_name(alloc, &start_tag.written)?;
+    let name = to_owned_name(alloc, &start_tag.written)?;
     Ok(Element::new(alloc, name))
 }
 
@@ -506,17 +516,17 @@ pub fn element<'a>(
 ) -> Result<(Element, &'a str), ParseError<'a>>
     requires namespaces_in_step { AreOpenNamespaces bindings.old }
     requires depth_bounded { depth + levels ≤ 1000 }
-    ensures reads_rule { Gives (λ x. (x.0, chars x.1.now)) result
+    ensures reads_rule { IsSameResult (λ x. (x.0, chars x.1.now)) result
         (read_element levels (lists bindings.old) depth (chars text.now)) }
-    ensures bindings_restored { OnOk result (AreBack bindings.old bindings.new) }
+    ensures bindings_restored { OnOk result (HasSameOpenElements bindings.old bindings.new) }
 {
     let Some(inner) = levels.checked_sub(1) else {
-        return Err(no_level(text, depth));
+        return Err(level_error(text, depth));
     };
     let mut raw_attribute = Vec::new(alloc);
-    let start_tag = whole_tag(alloc, text, &mut raw_attribute)?;
+    let start_tag = read_whole_tag(alloc, text, &mut raw_attribute)?;
     let mut element = empty_element(alloc, &start_tag)?;
-    let rest = fill(
+    let rest = fill_element(
         alloc,
         text,
         bindings,

@@ -1,6 +1,6 @@
 //! Reading texts of XML documents, fragments and attribute bodies.
 //! Promises upward that a text is read exactly as its grammar says, each fault with its place
-//! (`TextAnswer`, `BodyAnswer`), and that what `tree_print` prints is read back
+//! (`IsTextResult`, `IsBodyResult`), and that what `tree_print` prints is read back
 //! (`prints_are_read_back`).
 //! The standards are XML 1.0 (fifth edition) and Namespaces in XML 1.0, for the texts of RFC
 //! 4825.

@@ -1,6 +1,6 @@
 //! The number of characters in a part of a text.
 ghost use Rattle.std.specs.Prelude.{◌≡◌, ◌-◌, chars, length};
-ghost use Rattle.xml_grammar.specs.readers.Ends.{EndsWith};
+ghost use Rattle.xml_grammar.specs.readers.Suffixes.{EndsWith};
 
 use std::marker::Model;
 use xml_grammar::{count, text_before};
@@ -22,7 +22,7 @@ impl<'a> Model for Size<'a> {
 impl<'a> Size<'a> {
     /// The size of the part of a text before this rest of it.
     #[inline(always)]
-    pub fn before(text: &'a str, rest: &str) -> Size<'a>
+    pub fn of_text_before(text: &'a str, rest: &str) -> Size<'a>
         requires { EndsWith (chars text.now) (chars rest.now) }
         ensures exact { result ≡ length (chars text.now) - length (chars rest.now) }
     {

@@ -6,13 +6,13 @@ use Rattle.std.proofs.lemmas.Bool.{eqb-true}
 use Rattle.xml_names.specs.Characters.{is_space}
 use Rattle.usage_docs.specs.declared.address_states.AddressState.{AddressState}
 use Rattle.usage_docs.specs.declared.address_states.AddressState.TheVariants.{Start, H, Ht, Htt, Http, Https, Colon, Slash, Whole, GoesOn, Other}
-use Rattle.usage_docs.specs.readers.AddressStates.{white, address_after, is_address}
-use Rattle.usage_docs.specs.Forms.{is_longer_than_word, is_http, trim_text, trim_front, trim_back}
+use Rattle.usage_docs.specs.readers.AddressStates.{is_trimmed_space, address_state_after, is_whole_address}
+use Rattle.usage_docs.specs.ReferenceForms.{is_longer_than_word, is_http_uri, trim_text, trim_front, trim_back}
 
 -- ---- what each state still needs, where `w` are the letters that are ignored at the ends
 
 abbrev run : (ℕ → Bool) → AddressState → List ℕ → Bool
-run w a s = is_address (fold (address_after w) a s)
+run w a s = is_whole_address (fold (address_state_after w) a s)
 
 -- these letters, and after them one that isn't ignored
 abbrev reach : (ℕ → Bool) → List ℕ → List ℕ → Bool
@@ -98,23 +98,23 @@ start w (c ∷ s) = start_step w (w c) c s (start w s)
 
 -- ---- where every letter counts
 
-every : (xs s : List ℕ) → reach (white false) xs s ≡ is_longer_than_word xs s
+every : (xs s : List ℕ) → reach (is_trimmed_space false) xs s ≡ is_longer_than_word xs s
 every [] [] = refl
 every [] (c ∷ s) = refl
 every (x ∷ xs) [] = refl
 every (x ∷ xs) (c ∷ s) = ap (λ b. (c == x) && b) (every xs s)
 
-untrimmed : (s : List ℕ) → trim_front (white false) s ≡ s
+untrimmed : (s : List ℕ) → trim_front (is_trimmed_space false) s ≡ s
 untrimmed [] = refl
 untrimmed (c ∷ s) = refl
 
 either : (p q p' q' : Bool) → p ≡ p' → q ≡ q' → (p || q) ≡ (p' || q')
 either p q p' q' e f = cc
 
-pub address_is : (s : List ℕ) → is_address (fold (address_after (white false)) Start s) ≡ is_http s
-unfolding is_http
+pub address_is : (s : List ℕ) → is_whole_address (fold (address_state_after (is_trimmed_space false)) Start s) ≡ is_http_uri s
+unfolding is_http_uri
 address_is s =
-    start (white false) s ∙ ap (reaches (white false)) (untrimmed s)
+    start (is_trimmed_space false) s ∙ ap (reaches (is_trimmed_space false)) (untrimmed s)
     ∙ either _ _ _ _ (every (codes "http://") s) (every (codes "https://") s)
 
 -- ---- where white space is ignored
@@ -156,8 +156,8 @@ cut w [] (c ∷ s) k = empty_step (w c) (reach w [] s) (trim_back w s) c (cut w 
 cut w (x ∷ xs) [] k = refl
 cut w (x ∷ xs) (c ∷ s) k = word_step (w c) (reach w xs s) x c xs (trim_back w s) (λ p. black w x c (first_black w x xs k) p (c == x) refl) (cut w xs s (others_black w x xs k))
 
-pub trimmed_is : (s : List ℕ) → is_address (fold (address_after (white true)) Start s) ≡ is_http (trim_text s)
-unfolding is_http trim_text
+pub trimmed_is : (s : List ℕ) → is_whole_address (fold (address_state_after (is_trimmed_space true)) Start s) ≡ is_http_uri (trim_text s)
+unfolding is_http_uri trim_text
 trimmed_is s =
     let u = trim_front is_space s in
     start is_space s ∙ sym (either _ _ _ _ (cut is_space (codes "http://") u refl) (cut is_space (codes "https://") u refl))

@@ -4,7 +4,7 @@ use Rattle.std.specs.List.{list_all}
 use Rattle.xml_names.specs.Characters.{is_space}
 use Rattle.usage_docs.specs.declared.schema_table.ElementKind.{ElementKind}
 use Rattle.usage_docs.specs.SchemaTable.{content_model_of}
-use Rattle.usage_docs.specs.Validity.{is_text_model, text_passes}
+use Rattle.usage_docs.specs.Validity.{is_text_model, is_text_allowed}
 
 both : (p q : Bool) → IsTrue (p && q) → IsTrue p × IsTrue q
 both true true h = (refl, refl)
@@ -29,14 +29,14 @@ passes_two : (b : Bool) (p q pq : Bool) → pq ≡ (p && q) → IsTrue (b || pq)
 passes_two true p q pq e = (λ _. (refl, refl), λ _. refl)
 passes_two false p q pq e = (λ h. both p q (sym e ∙ h), λ h. e ∙ joined p q h.0 h.1)
 
-pub passes_append : (row : ElementKind) (t u : List ℕ) → IsTrue (text_passes row (t ++ u)) ↔ (IsTrue (text_passes row t) × IsTrue (text_passes row u))
-unfolding text_passes
+pub passes_append : (row : ElementKind) (t u : List ℕ) → IsTrue (is_text_allowed row (t ++ u)) ↔ (IsTrue (is_text_allowed row t) × IsTrue (is_text_allowed row u))
+unfolding is_text_allowed
 passes_append row t u = passes_two (is_text_model (content_model_of row)) (list_all is_space t) (list_all is_space u) (list_all is_space (t ++ u)) (all_append is_space t u)
 
 or_true : (b : Bool) → IsTrue (b || true)
 or_true true = refl
 or_true false = refl
 
-pub passes_none : (row : ElementKind) → IsTrue (text_passes row [])
-unfolding text_passes
+pub passes_none : (row : ElementKind) → IsTrue (is_text_allowed row [])
+unfolding is_text_allowed
 passes_none row = or_true (is_text_model (content_model_of row))

@@ -2,7 +2,7 @@
 use Rattle.std.proofs.Common.{◌≡◌, ◌↔◌, ◌⊎◌, Bool, true, false, ◌||◌, List, [], ◌∷◌, IsTrue, refl, ap, inl, inr}
 use Rattle.usage_docs.specs.declared.schema_table.ElementKind.{ElementKind}
 use Rattle.usage_docs.specs.declared.schema_table.ElementKind.TheVariants.{ResourceLists, EntryList, Entry, EntryRef, External, DisplayName, RlsServices, Service, ResourceList, Packages, Package}
-use Rattle.usage_docs.specs.SchemaTable.{Child, known, foreign, stray, IsIn}
+use Rattle.usage_docs.specs.SchemaTable.{Child, known, foreign, stray, IsOneOf}
 
 abbrev pub same_kind : ElementKind → ElementKind → Bool
 same_kind ResourceLists ResourceLists = true
@@ -61,7 +61,7 @@ either_of true d h = refl
 either_of false d (inl h) = cc
 either_of false d (inr h) = h
 
-pub is_in_exact : (ys : List Child) (x : Child) → IsTrue (is_in ys x) ↔ IsIn ys x
+pub is_in_exact : (ys : List Child) (x : Child) → IsTrue (is_in ys x) ↔ IsOneOf ys x
 is_in_exact [] x = (λ h. (let none : ⊥ = cc in none), λ h. absurd h)
 is_in_exact (y ∷ ys) x = (
   λ h. elim (either (same_child y x) (is_in ys x) h) [ inl s ↦ inl ((same_child_exact y x).0 s) | inr r ↦ inr ((is_in_exact ys x).0 r) ],

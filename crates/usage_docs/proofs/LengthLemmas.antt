@@ -9,22 +9,22 @@ use Rattle.std.specs.Ordering.{match_ordering}
 use Rattle.xml_tree.specs.Tree.{Content, Tree, tree_of}
 use Rattle.xml_names.specs.Markup.{print_decl, tag_front, byte_len}
 use Rattle.xml_tree.specs.Print.{print, print_content, rest_of_element, is_empty}
-use Rattle.xml_names.specs.inner.DeclarationMaps.{gathered, gathered_bindings, placed}
-use Rattle.xml_names.specs.Scopes.{AreInOrder, binds, bindings_in, declared_uri}
+use Rattle.xml_names.specs.inner.DeclarationMaps.{with_sorted_decls, sorted_bindings, with_sorted_decl}
+use Rattle.xml_names.specs.Scopes.{AreSortedByPrefix, binds_prefix, in_scope_bindings, declared_uri}
 use Rattle.xml_names.specs.declared.names.Attr.{Attr}
 use Rattle.xml_names.specs.declared.names.Decl.{Decl}
 use Rattle.xml_names.specs.declared.names.Name.{Name}
 use Rattle.xml_tree.specs.declared.tree.Node.{Node}
-use Rattle.xml_names.proofs.BindingLaws.{Behind, AreInOrder-placed, AreInOrder-gathered}
+use Rattle.xml_names.proofs.BindingLaws.{Behind, AreInOrder-with_sorted_decl, AreInOrder-with_sorted_decls}
 use Rattle.xml_names.proofs.BindingWords.{gathered_are}
 use Rattle.xml_names.proofs.ByteOrder.{order, order_same, order_equal}
-use Rattle.xml_names.proofs.GatheringLemmas.{gathered-append}
+use Rattle.xml_names.proofs.GatheringLemmas.{with_sorted_decls-append}
 use Rattle.xml_names.proofs.PrintLengths.{byte_len-append, byte_len-tag_front}
 use Rattle.xml_names.proofs.ScopeLemmas.{drop_item, option_or-none}
 use Rattle.usage_docs.specs.SchemaTable.{Scope}
-use Rattle.usage_docs.specs.Services.{listed_as}
+use Rattle.usage_docs.specs.Services.{listed_service}
 use Rattle.usage_docs.specs.readers.ServiceNodes.{elems_len, listed_nodes}
-use Rattle.usage_docs.specs.readers.Lengths.{decls_len}
+use Rattle.usage_docs.specs.readers.ServiceLengths.{decls_len}
 use Rattle.usage_docs.proofs.ListingLemmas.{listed_step}
 
 -- ---- sums
@@ -79,24 +79,24 @@ all_kept (b ∷ bs) = ap (λ (ds : List Decl). b ∷ ds) (all_kept bs)
 -- ---- what is left of a list of declarations: the ones that bind, and whose prefixes others
 -- don't redeclare
 abbrev left : List Decl → List Decl → ℕ
-left own g = decls_len (kept own (filter binds g))
+left own g = decls_len (kept own (filter binds_prefix g))
 
 two : (own a b : List Decl) → left own (a ++ b) ≡ left own a + left own b
 two own a b =
-    ap (λ (ds : List Decl). decls_len (kept own ds)) (filter-append binds a b)
-    ∙ ap decls_len (filter-append (λ (x : Decl). is_none (declared_uri own x.prefix)) (filter binds a) (filter binds b)) ∙ decls_two (kept own (filter binds a)) (kept own (filter binds b))
+    ap (λ (ds : List Decl). decls_len (kept own ds)) (filter-append binds_prefix a b)
+    ∙ ap decls_len (filter-append (λ (x : Decl). is_none (declared_uri own x.prefix)) (filter binds_prefix a) (filter binds_prefix b)) ∙ decls_two (kept own (filter binds_prefix a)) (kept own (filter binds_prefix b))
 
 -- one declaration, by whether others redeclare it
 module _ (x : Decl) where
-  same_test : (f g : Decl → Bool) → f x ≡ g x → decls_len (filter f (filter binds (x ∷ []))) ≡ decls_len (filter g (filter binds (x ∷ [])))
-  same_test f g e = by (binds x)
+  same_test : (f g : Decl → Bool) → f x ≡ g x → decls_len (filter f (filter binds_prefix (x ∷ []))) ≡ decls_len (filter g (filter binds_prefix (x ∷ [])))
+  same_test f g e = by (binds_prefix x)
     where
       by : (b : Bool) → decls_len (filter f (cond b (x ∷ []) [])) ≡ decls_len (filter g (cond b (x ∷ []) []))
       by true = ap (λ (t : Bool). decls_len (cond t (x ∷ []) [])) e
       by false = refl
 
-  failed_test : (f : Decl → Bool) → f x ≡ false → decls_len (filter f (filter binds (x ∷ []))) ≡ 0
-  failed_test f e = by (binds x)
+  failed_test : (f : Decl → Bool) → f x ≡ false → decls_len (filter f (filter binds_prefix (x ∷ []))) ≡ 0
+  failed_test f e = by (binds_prefix x)
     where
       by : (b : Bool) → decls_len (filter f (cond b (x ∷ []) [])) ≡ 0
       by true = ap (λ (t : Bool). decls_len (cond t (x ∷ []) [])) e
@@ -134,12 +134,12 @@ all_left d ds (x ∷ g) h =
     two (d ∷ ds) (x ∷ []) g ∙ (λ i. first i + others i) ∙ sym (two ds (x ∷ []) g)
 
 -- one more declaration around others
-one_more : (d : Decl) (ds g : List Decl) → AreInOrder g → left ds (placed d g) ≡ left (d ∷ ds) g + left ds (d ∷ [])
+one_more : (d : Decl) (ds g : List Decl) → AreSortedByPrefix g → left ds (with_sorted_decl d g) ≡ left (d ∷ ds) g + left ds (d ∷ [])
 one_more d ds [] h = sym (zero_before (left ds (d ∷ [])))
-one_more d ds (x ∷ g) h = by (order d.prefix x.prefix) refl (AreInOrder-placed d (x ∷ g) h) (one_more d ds g h.1)
+one_more d ds (x ∷ g) h = by (order d.prefix x.prefix) refl (AreInOrder-with_sorted_decl d (x ∷ g) h) (one_more d ds g h.1)
   where
-    by : (o : Ordering) → order d.prefix x.prefix ≡ o → AreInOrder (match_ordering o (d ∷ x ∷ g) (d ∷ g) (x ∷ placed d g)) → left ds (placed d g) ≡ left (d ∷ ds) g + left ds (d ∷ [])
-        → left ds (match_ordering o (d ∷ x ∷ g) (d ∷ g) (x ∷ placed d g)) ≡ left (d ∷ ds) (x ∷ g) + left ds (d ∷ [])
+    by : (o : Ordering) → order d.prefix x.prefix ≡ o → AreSortedByPrefix (match_ordering o (d ∷ x ∷ g) (d ∷ g) (x ∷ with_sorted_decl d g)) → left ds (with_sorted_decl d g) ≡ left (d ∷ ds) g + left ds (d ∷ [])
+        → left ds (match_ordering o (d ∷ x ∷ g) (d ∷ g) (x ∷ with_sorted_decl d g)) ≡ left (d ∷ ds) (x ∷ g) + left ds (d ∷ [])
     by Less is all rest =
         two ds (d ∷ []) (x ∷ g) ∙ ap (λ (n : ℕ). left ds (d ∷ []) + n) (sym (all_left d ds (x ∷ g) all.0)) ∙ turned (left ds (d ∷ [])) (left (d ∷ ds) (x ∷ g))
     by Equal is all rest =
@@ -149,32 +149,32 @@ one_more d ds (x ∷ g) h = by (order d.prefix x.prefix) refl (AreInOrder-placed
         two ds (d ∷ []) g ∙ ap (λ (n : ℕ). left ds (d ∷ []) + n) (sym after) ∙ turned (left ds (d ∷ [])) (left (d ∷ ds) (x ∷ g))
     by Greater is all rest =
         let first = sym (other_left d ds x (unlike d.prefix x.prefix (λ e. let both : Greater ≡ Equal = sym is ∙ e in cc))) in
-        two ds (x ∷ []) (placed d g) ∙ (λ i. first i + rest i) ∙ grouped (left (d ∷ ds) (x ∷ [])) (left (d ∷ ds) g) (left ds (d ∷ []))
+        two ds (x ∷ []) (with_sorted_decl d g) ∙ (λ i. first i + rest i) ∙ grouped (left (d ∷ ds) (x ∷ [])) (left (d ∷ ds) g) (left ds (d ∷ []))
         ∙ ap (λ (n : ℕ). n + left ds (d ∷ [])) (sym (two (d ∷ ds) (x ∷ []) g))
 
 -- declarations around others: what they leave of the others, and what they bind themselves
-all_more : (own g : List Decl) → AreInOrder g → decls_len (filter binds (gathered g own)) ≡ left own g + decls_len (filter binds (gathered [] own))
-all_more [] g h = ap decls_len (sym (all_kept (filter binds g))) ∙ zero_behind (left [] g)
+all_more : (own g : List Decl) → AreSortedByPrefix g → decls_len (filter binds_prefix (with_sorted_decls g own)) ≡ left own g + decls_len (filter binds_prefix (with_sorted_decls [] own))
+all_more [] g h = ap decls_len (sym (all_kept (filter binds_prefix g))) ∙ zero_behind (left [] g)
 all_more (d ∷ ds) g h =
-    let inner = decls_len (filter binds (gathered [] ds)) in
-    all_more ds (placed d g) (AreInOrder-placed d g h) ∙ ap (λ (n : ℕ). n + inner) (one_more d ds g h) ∙ sym (grouped (left (d ∷ ds) g) (left ds (d ∷ [])) inner)
+    let inner = decls_len (filter binds_prefix (with_sorted_decls [] ds)) in
+    all_more ds (with_sorted_decl d g) (AreInOrder-with_sorted_decl d g h) ∙ ap (λ (n : ℕ). n + inner) (one_more d ds g h) ∙ sym (grouped (left (d ∷ ds) g) (left ds (d ∷ [])) inner)
     ∙ ap (λ (n : ℕ). left (d ∷ ds) g + n) (sym (all_more ds (d ∷ []) (tt, tt)))
 
 -- the declarations collected inside a child of a root
-gathered_inside : (root own : List Decl) → decls_len (gathered_bindings (root ∷ own ∷ [])) ≡ decls_len (kept own (gathered_bindings (root ∷ []))) + decls_len (gathered_bindings (own ∷ []))
+gathered_inside : (root own : List Decl) → decls_len (sorted_bindings (root ∷ own ∷ [])) ≡ decls_len (kept own (sorted_bindings (root ∷ []))) + decls_len (sorted_bindings (own ∷ []))
 gathered_inside root own =
-    let inner = decls_len (gathered_bindings (own ∷ [])) in
-    ap (λ (ds : List Decl). decls_len (filter binds ds)) (gathered-append [] root (own ++ []))
-    ∙ all_more (own ++ []) (gathered [] root) (AreInOrder-gathered [] root tt)
-    ∙ ap (λ (ds : List Decl). left ds (gathered [] root) + inner) (append-nil own)
-    ∙ ap (λ (ds : List Decl). left own (gathered [] ds) + inner) (sym (append-nil root))
+    let inner = decls_len (sorted_bindings (own ∷ [])) in
+    ap (λ (ds : List Decl). decls_len (filter binds_prefix ds)) (with_sorted_decls-append [] root (own ++ []))
+    ∙ all_more (own ++ []) (with_sorted_decls [] root) (AreInOrder-with_sorted_decls [] root tt)
+    ∙ ap (λ (ds : List Decl). left ds (with_sorted_decls [] root) + inner) (append-nil own)
+    ∙ ap (λ (ds : List Decl). left own (with_sorted_decls [] ds) + inner) (sym (append-nil root))
 
 -- the bindings there
-pub bound_inside : (root own : List Decl) → decls_len (bindings_in (root ∷ own ∷ [])) ≡ decls_len (kept own (bindings_in (root ∷ []))) + decls_len (bindings_in (own ∷ []))
+pub bound_inside : (root own : List Decl) → decls_len (in_scope_bindings (root ∷ own ∷ [])) ≡ decls_len (kept own (in_scope_bindings (root ∷ []))) + decls_len (in_scope_bindings (own ∷ []))
 bound_inside root own =
     ap decls_len (sym (gathered_are (root ∷ own ∷ []))) ∙ gathered_inside root own
-    ∙ ap (λ (ds : List Decl). decls_len (kept own ds) + decls_len (gathered_bindings (own ∷ []))) (gathered_are (root ∷ []))
-    ∙ ap (λ (ds : List Decl). decls_len (kept own (bindings_in (root ∷ []))) + decls_len ds) (gathered_are (own ∷ []))
+    ∙ ap (λ (ds : List Decl). decls_len (kept own ds) + decls_len (sorted_bindings (own ∷ []))) (gathered_are (root ∷ []))
+    ∙ ap (λ (ds : List Decl). decls_len (kept own (in_scope_bindings (root ∷ []))) + decls_len ds) (gathered_are (own ∷ []))
 
 -- ---- a service as the index lists it
 no_decls : (ds : List Decl) → length ds ≡ 0 → ds ≡ []
@@ -182,19 +182,19 @@ no_decls [] h = refl
 no_decls (d ∷ ds) h = absurd (omega (arith, h))
 
 -- a service without declarations
-pub plain_service : (root : List Decl) (e : Tree) → length e.decls ≡ 0 → byte_len (print (listed_as (root ∷ []) e)) ≡ byte_len (print e) + decls_len (bindings_in (root ∷ []))
+pub plain_service : (root : List Decl) (e : Tree) → length e.decls ≡ 0 → byte_len (print (listed_service (root ∷ []) e)) ≡ byte_len (print e) + decls_len (in_scope_bindings (root ∷ []))
 plain_service root e h =
     let none = no_decls e.decls h in
-    ap (λ (ds : List Decl). byte_len (print (tree_of e.name (bindings_in (root ∷ ds ∷ [])) e.attrs e.content))) none
-    ∙ with_decls e.name (bindings_in (root ∷ [])) e.attrs e.content
-    ∙ ap (λ (ds : List Decl). byte_len (print (tree_of e.name ds e.attrs e.content)) + decls_len (bindings_in (root ∷ []))) (sym none)
+    ap (λ (ds : List Decl). byte_len (print (tree_of e.name (in_scope_bindings (root ∷ ds ∷ [])) e.attrs e.content))) none
+    ∙ with_decls e.name (in_scope_bindings (root ∷ [])) e.attrs e.content
+    ∙ ap (λ (ds : List Decl). byte_len (print (tree_of e.name ds e.attrs e.content)) + decls_len (in_scope_bindings (root ∷ []))) (sym none)
 
 -- a service with declarations, by its length without them
 pub own_service : (root : List Decl) (e : Tree)
-    → byte_len (print (listed_as (root ∷ []) e))
-    ≡ byte_len (print (tree_of e.name [] e.attrs e.content)) + (decls_len (kept e.decls (bindings_in (root ∷ []))) + decls_len (bindings_in (e.decls ∷ [])))
+    → byte_len (print (listed_service (root ∷ []) e))
+    ≡ byte_len (print (tree_of e.name [] e.attrs e.content)) + (decls_len (kept e.decls (in_scope_bindings (root ∷ []))) + decls_len (in_scope_bindings (e.decls ∷ [])))
 own_service root e =
-    with_decls e.name (bindings_in (root ∷ e.decls ∷ [])) e.attrs e.content
+    with_decls e.name (in_scope_bindings (root ∷ e.decls ∷ [])) e.attrs e.content
     ∙ ap (λ (n : ℕ). byte_len (print (tree_of e.name [] e.attrs e.content)) + n) (bound_inside root e.decls)
 
 -- ---- the services among nodes

@@ -12,11 +12,11 @@ use Rattle.usage_docs.specs.SchemaTable.{Scope, services_namespace}
 use Rattle.usage_docs.specs.declared.service_index.IndexFault.TheVariants.{TooLarge}
 use Rattle.std.proofs.lemmas.Str.{length-le-encodes}
 use Rattle.std.proofs.lemmas.Bool.Decides.{nat_tests}
-use Rattle.usage_docs.specs.Services.{RefusesServices, is_service, listed_as, index_name, index_decls, index_of, index_text, index_len}
+use Rattle.usage_docs.specs.Services.{RefusesServices, is_service, listed_service, index_name, index_decls, index_of, index_text, index_len}
 use Rattle.usage_docs.specs.declared.service_index.TheConstants.{INDEX_LIMIT}
 use Rattle.usage_docs.specs.readers.ServiceNodes.{listed_nodes, elems_len}
-use Rattle.usage_docs.specs.inner.Indexes.{len_with}
-use Rattle.usage_docs.specs.readers.Siblings.{node_children}
+use Rattle.usage_docs.specs.inner.ServiceIndexes.{index_len_with}
+use Rattle.usage_docs.specs.readers.SiblingElements.{node_children}
 use Rattle.usage_docs.proofs.ClashLemmas.{kids_are}
 
 -- ---- the services among nodes
@@ -26,12 +26,12 @@ one_listed f true e es = refl
 one_listed f false e es = refl
 
 pub listed_step : (c : Scope) (n : Node) (ns : List Node) → listed_nodes c (n ∷ ns) ≡ listed_nodes c (n ∷ []) ++ listed_nodes c ns
-listed_step c (Elem e) ns = one_listed (listed_as c) (is_service c e) e (filter (is_service c) (node_children ns))
+listed_step c (Elem e) ns = one_listed (listed_service c) (is_service c e) e (filter (is_service c) (node_children ns))
 listed_step c (Chars t) ns = refl
 listed_step c (Comment x) ns = refl
 
-pub all_listed : (c : Scope) (ns : List Node) (content : Content) → content_of ns ≡ content → listed_nodes c ns ≡ map Elem (map (listed_as c) (filter (is_service c) (child_elements content)))
-all_listed c ns content e = ap (λ ks. map Elem (map (listed_as c) (filter (is_service c) ks))) (sym (kids_are ns content e))
+pub all_listed : (c : Scope) (ns : List Node) (content : Content) → content_of ns ≡ content → listed_nodes c ns ≡ map Elem (map (listed_service c) (filter (is_service c) (child_elements content)))
+all_listed c ns content e = ap (λ ks. map Elem (map (listed_service c) (filter (is_service c) ks))) (sym (kids_are ns content e))
 
 -- ---- its children
 
@@ -103,14 +103,14 @@ index_len_is (s ∷ ss) =
     let whole = whole_some (elems_len (map Elem (s ∷ ss))) (omega (arith, some)) in
     omega (arith, all, mark, parts, start, end, inside, whole)
 
-len_at : (n t : ℕ) → t ≡ min n 18446744073709551615 → len_with t ≡ min (whole_len n) 18446744073709551615
+len_at : (n t : ℕ) → t ≡ min n 18446744073709551615 → index_len_with t ≡ min (whole_len n) 18446744073709551615
 len_at n t e = grind (arith, nat_tests)
 
 whole_above : (n : ℕ) → n ≤ whole_len n
 whole_above n = grind (arith, nat_tests)
 
 -- the length of the index to be, by the length of its services and of the services to be added
-module _ (ss new : List Tree) (inner total len : ℕ) (counted : inner ≡ elems_len (map Elem ss)) (added : total ≡ min (inner + min (elems_len (map Elem new)) 18446744073709551615) 18446744073709551615) (is : len ≡ len_with total) where
+module _ (ss new : List Tree) (inner total len : ℕ) (counted : inner ≡ elems_len (map Elem ss)) (added : total ≡ min (inner + min (elems_len (map Elem new)) 18446744073709551615) 18446744073709551615) (is : len ≡ index_len_with total) where
   total_is : total ≡ min (elems_len (map Elem (ss ++ new))) 18446744073709551615
   total_is = let e = elems_two ss new in omega arith
 

@@ -9,17 +9,17 @@ use Rattle.usage_docs.specs.declared.schema_table.ElementKind.{ElementKind}
 use Rattle.usage_docs.specs.SchemaTable.{Scope, Child, child_class_of, root_kind, items_in, content_model_of, MatchesModel as Matches}
 use Rattle.xml_tree.specs.TreeScopes.{inside}
 use Rattle.usage_docs.specs.Validity.{IsValidDocument, children_of}
-use Rattle.usage_docs.specs.Gaps.{last_of, child_before, child_after, FitsGap, FitsBelow, GapThere}
-use Rattle.usage_docs.specs.readers.Gaps.{part_before, part_after, FollowsGap, FollowsBelow}
-use Rattle.usage_docs.specs.readers.Parts.{part_in, part_of, follows, end}
-use Rattle.usage_docs.specs.readers.Walks.{Walks}
+use Rattle.usage_docs.specs.InsertionPoints.{last_child, child_before, child_after, FitsGap, FitsGapBelow, HasGap}
+use Rattle.usage_docs.specs.readers.NeighbourParts.{part_before, part_after, FitsGapByParts, FitsGapByPartsBelow}
+use Rattle.usage_docs.specs.readers.ContentParts.{part_of_class, part_of, may_follow, end_part}
+use Rattle.usage_docs.specs.readers.ContentWalks.{WalksContent}
 use Rattle.usage_docs.proofs.ContentMatches.{Chain, matched}
 use Rattle.usage_docs.proofs.ChildWalks.{followed, walk_kept}
 use Rattle.usage_docs.proofs.GapLemmas.{insertion_by_parts, kid_valid, put_from}
 
 abbrev part_or : ElementKind → ℕ → Option Child → ℕ
 part_or row n None = n
-part_or row n (Some x) = part_in row x
+part_or row n (Some x) = part_of_class row x
 
 -- ---- some children in order
 
@@ -29,20 +29,20 @@ module _ (row : ElementKind) where
   found_part (x ∷ xs) zero l n m = refl
   found_part (x ∷ xs) (suc i) l n m = found_part xs i (omega (arith, l)) n m
 
-  last_part : (x : Child) (xs : List Child) (n m : ℕ) → part_or row n (last_of (x ∷ xs)) ≡ part_or row m (last_of (x ∷ xs))
+  last_part : (x : Child) (xs : List Child) (n m : ℕ) → part_or row n (last_child (x ∷ xs)) ≡ part_or row m (last_child (x ∷ xs))
   last_part x [] n m = refl
   last_part x (y ∷ xs) n m = last_part y xs n m
 
   abbrev Between : ℕ → List Child → Child → List Child → Type 0
-  Between b front x back = IsTrue (follows row (part_or row b (last_of front)) (part_in row x)) × IsTrue (follows row (part_in row x) (part_or row end (slice_get back 0)))
+  Between b front x back = IsTrue (may_follow row (part_or row b (last_child front)) (part_of_class row x)) × IsTrue (may_follow row (part_of_class row x) (part_or row end_part (slice_get back 0)))
 
   chain_between : (front : List Child) (x : Child) (back : List Child) (b : ℕ) → Chain row b (front ++ x ∷ back) → Between b front x back
   chain_between [] x [] b c = (c.0, c.1)
   chain_between [] x (y ∷ ys) b c = (c.0, c.1.0)
-  chain_between (y ∷ []) x back b c = chain_between [] x back (part_in row y) c.1
+  chain_between (y ∷ []) x back b c = chain_between [] x back (part_of_class row y) c.1
   chain_between (y ∷ z ∷ zs) x back b c =
-      let r = chain_between (z ∷ zs) x back (part_in row y) c.1 in
-      (subst (λ (n : ℕ). IsTrue (follows row n (part_in row x))) (last_part z zs (part_in row y) b) r.0, r.1)
+      let r = chain_between (z ∷ zs) x back (part_of_class row y) c.1 in
+      (subst (λ (n : ℕ). IsTrue (may_follow row n (part_of_class row x))) (last_part z zs (part_of_class row y) b) r.0, r.1)
 
 -- ---- the children of a content
 
@@ -51,7 +51,7 @@ child_at [] i l e = absurd (omega (arith, l))
 child_at (x ∷ xs) zero l e = cc
 child_at (x ∷ xs) (suc i) l e = child_at xs i (omega (arith, l)) e
 
-last_none : (xs : List Child) → last_of xs ≡ None → xs ≡ []
+last_none : (xs : List Child) → last_child xs ≡ None → xs ≡ []
 last_none [] e = refl
 last_none (x ∷ []) e = cc
 last_none (x ∷ y ∷ xs) e = (let h : y ∷ xs ≡ [] = last_none (y ∷ xs) e in cc)
@@ -74,7 +74,7 @@ module _ (row : ElementKind) (c : Scope) where
       ∙ found_part row (children_of row c rest) j (omega (arith, count rest)) (part_of row (c ++ ds ∷ []) n) b
   before_is (comment_node t x rest) (suc j) b l = before_is rest (suc j) b l
 
-  after_is : (content : Content) (j : ℕ) → part_after row c j content ≡ part_or row end (child_after j (children_of row c content))
+  after_is : (content : Content) (j : ℕ) → part_after row c j content ≡ part_or row end_part (child_after j (children_of row c content))
   unfolding part_of
   after_is (last t) j = refl
   after_is (more t n ds ats k rest) zero = refl
@@ -89,11 +89,11 @@ module _ (row : ElementKind) (c : Scope) where
     record Parted (content : Content) (j : ℕ) : Type 0 where
       front : List Child
       back : List Child
-      ends : last_of front ≡ child_before j (children_of row c content)
+      ends : last_child front ≡ child_before j (children_of row c content)
       begins : slice_get back 0 ≡ child_after j (children_of row c content)
       all : children_of row c (put j new content) ≡ front ++ it ∷ back
 
-    first_behind : (y : Child) (front ys : List Child) (j : ℕ) → j ≤ length ys → last_of front ≡ child_before j ys → last_of (y ∷ front) ≡ child_before (suc j) (y ∷ ys)
+    first_behind : (y : Child) (front ys : List Child) (j : ℕ) → j ≤ length ys → last_child front ≡ child_before j ys → last_child (y ∷ front) ≡ child_before (suc j) (y ∷ ys)
     first_behind y [] ys zero l e = refl
     first_behind y (z ∷ zs) ys zero l e = (let h : z ∷ zs ≡ [] = last_none (z ∷ zs) e in cc)
     first_behind y [] ys (suc j) l e = absurd (child_at ys j (omega (arith, l)) (sym e))
@@ -118,15 +118,15 @@ module _ (row : ElementKind) (c : Scope) where
         let r = parted rest (suc j) l in
         record { front = r.front; back = r.back; ends = r.ends; begins = r.begins; all = r.all }
 
-    gap_exact : (content : Content) (j : ℕ) → j ≤ length (child_elements content) → Walks row c 0 content → FitsGap row c content new j ↔ FollowsGap row c content new j
+    gap_exact : (content : Content) (j : ℕ) → j ≤ length (child_elements content) → WalksContent row c 0 content → FitsGap row c content new j ↔ FitsGapByParts row c content new j
     unfolding part_of
     gap_exact content j l w = (
       λ f.
           (let m = f.1 in
           let b = chain_between row m.front it m.back 0 ((matched row (m.front ++ it ∷ m.back)).1 m.fits) in (
             f.0,
-            subst (λ (n : ℕ). IsTrue (follows row n (part_in row it))) (ap (part_or row zero) m.ends ∙ sym (before_is content j 0 l)) b.0,
-            subst (λ (n : ℕ). IsTrue (follows row (part_in row it) n)) (ap (part_or row end) m.begins ∙ sym (after_is content j)) b.1,
+            subst (λ (n : ℕ). IsTrue (may_follow row n (part_of_class row it))) (ap (part_or row zero) m.ends ∙ sym (before_is content j 0 l)) b.0,
+            subst (λ (n : ℕ). IsTrue (may_follow row (part_of_class row it) n)) (ap (part_or row end_part) m.begins ∙ sym (after_is content j)) b.1,
           )),
       λ f.
           (let r = parted content j l in
@@ -144,21 +144,21 @@ module _ (row : ElementKind) (c : Scope) where
 
 -- ---- at a path
 
-below_to : (j : ℕ) (new : Tree) (q : List ℕ) (row : ElementKind) (c : Scope) (e : Tree) → GapThere e q j → Walks row c 0 e.content → FitsBelow row c e q new j → FollowsBelow row c e q new j
+below_to : (j : ℕ) (new : Tree) (q : List ℕ) (row : ElementKind) (c : Scope) (e : Tree) → HasGap e q j → WalksContent row c 0 e.content → FitsGapBelow row c e q new j → FitsGapByPartsBelow row c e q new j
 below_to j new [] row c e there w f = (gap_exact row c new e.content j there w).0 f
 below_to j new (n ∷ q) row c e there w (child_element, (at, f)) =
-    let below = subst (λ (x : Tree). GapThere x q j) (same_Some _ _ (sym there.1.0 ∙ at)) there.1.1 in
+    let below = subst (λ (x : Tree). HasGap x q j) (same_Some _ _ (sym there.1.0 ∙ at)) there.1.1 in
     let old = kid_valid row c e.content n child_element 0 at w in
     (child_element, (at, λ kind is. below_to j new q kind (inside c child_element) child_element below (walk_kept kind (inside c child_element) child_element.attrs child_element.content (old kind is)) (f kind is)))
 
-below_from : (j : ℕ) (new : Tree) (q : List ℕ) (row : ElementKind) (c : Scope) (e : Tree) → GapThere e q j → Walks row c 0 e.content → FollowsBelow row c e q new j → FitsBelow row c e q new j
+below_from : (j : ℕ) (new : Tree) (q : List ℕ) (row : ElementKind) (c : Scope) (e : Tree) → HasGap e q j → WalksContent row c 0 e.content → FitsGapByPartsBelow row c e q new j → FitsGapBelow row c e q new j
 below_from j new [] row c e there w f = (gap_exact row c new e.content j there w).1 f
 below_from j new (n ∷ q) row c e there w (child_element, (at, f)) =
-    let below = subst (λ (x : Tree). GapThere x q j) (same_Some _ _ (sym there.1.0 ∙ at)) there.1.1 in
+    let below = subst (λ (x : Tree). HasGap x q j) (same_Some _ _ (sym there.1.0 ∙ at)) there.1.1 in
     let old = kid_valid row c e.content n child_element 0 at w in
     (child_element, (at, λ kind is. below_from j new q kind (inside c child_element) child_element below (walk_kept kind (inside c child_element) child_element.attrs child_element.content (old kind is)) (f kind is)))
 
-pub insertion : (u : Usage) (t new : Tree) (q : List ℕ) (j : ℕ) → GapThere t q j → IsValidDocument u t → IsValidDocument u (put_in q j new t) ↔ FitsBelow (root_kind u) (t.decls ∷ []) t q new j
+pub insertion : (u : Usage) (t new : Tree) (q : List ℕ) (j : ℕ) → HasGap t q j → IsValidDocument u t → IsValidDocument u (put_in q j new t) ↔ FitsGapBelow (root_kind u) (t.decls ∷ []) t q new j
 insertion u t new q j there k =
     let w = walk_kept (root_kind u) (t.decls ∷ []) t.attrs t.content k.valid in
     let by_parts = insertion_by_parts u t new q j there k in (

@@ -6,8 +6,8 @@ use Rattle.xml_tree.specs.declared.tree.Node.{Node}
 use Rattle.xml_tree.specs.declared.tree.Node.TheVariants.{Elem, Chars, Comment}
 use Rattle.usage_docs.specs.SchemaTable.{Scope}
 use Rattle.usage_docs.specs.Services.{service_uri}
-use Rattle.usage_docs.specs.readers.Siblings.{node_children}
-use Rattle.usage_docs.specs.readers.Uris.{node_uri}
+use Rattle.usage_docs.specs.readers.SiblingElements.{node_children}
+use Rattle.usage_docs.specs.readers.ServiceUris.{node_uri}
 use Rattle.usage_docs.proofs.ClashLemmas.{kids_are}
 
 nodes_uris : (c : Scope) (ns : List Node) → filter_map (node_uri c) ns ≡ filter_map (service_uri c) (node_children ns)

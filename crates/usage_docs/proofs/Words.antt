@@ -4,7 +4,7 @@ use Rattle.std.proofs.lemmas.Str.{chars-IsAscii}
 use Rattle.std.proofs.lemmas.Str.Ascii.{IsAscii-nil, IsAscii-cons}
 use Rattle.std.proofs.lemmas.Bool.Decides.{nat_tests}
 use Rattle.std.specs.Str.{IsAscii}
-use Rattle.usage_docs.specs.Words.{is_ascii}
+use Rattle.usage_docs.specs.AsciiTexts.{is_ascii}
 
 first_below : (b : ℕ) (bs : List ℕ) → IsTrue (is_ascii (b ∷ bs)) → b < 128
 first_below b bs h = grind (arith, nat_tests)

@@ -10,7 +10,7 @@ use Rattle.std.specs.Prelude.{ℕ, Bool, List, [], ◌∷◌, ◌⊎◌, ◌≡�
 use Rattle.std.specs.Prelude.{if◌then◌else◌, ◌&&◌, not, find, unwrap_or, filter_map, flat_map}
 use Rattle.std.specs.Str.{bytes_eq}
 use Rattle.std.specs.Option.{option_map_or}
-use Rattle.xml_names.specs.Scopes.{bound}
+use Rattle.xml_names.specs.Scopes.{bound_uri}
 use Rattle.xml_names.specs.declared.names.Name.{Name}
 use Rattle.xml_names.specs.declared.names.Decl.{Decl}
 use Rattle.doc_names.specs.Usages.{namespace_of}
@@ -113,21 +113,22 @@ items_in text_alone = []
 items_in (sequence items) = items
 
 -- one of these children is this one
-abbrev pub IsIn : List Child → Child → Type 0
-IsIn [] x = ⊥
-IsIn (y ∷ ys) x = (y ≡ x) ⊎ IsIn ys x
+abbrev pub IsOneOf : List Child → Child → Type 0
+IsOneOf [] x = ⊥
+IsOneOf (y ∷ ys) x = (y ≡ x) ⊎ IsOneOf ys x
 
 -- Children in order match the items of a model: each `one` takes a child of its list, each `opt`
 -- one or none, each `any` any number, and no child is left.
 pub data MatchesModel : List ModelItem → List Child → Type 0 where
   ends : MatchesModel [] []
-  takes : {ys : List Child} {items : List ModelItem} {x : Child} {xs : List Child} → IsIn ys x
+  takes : {ys : List Child} {items : List ModelItem} {x : Child} {xs : List Child} → IsOneOf ys x
       → MatchesModel items xs → MatchesModel (one ys ∷ items) (x ∷ xs)
-  may_take : {ys : List Child} {items : List ModelItem} {x : Child} {xs : List Child} → IsIn ys x
+  may_take : {ys : List Child} {items : List ModelItem} {x : Child} {xs : List Child} → IsOneOf ys x
       → MatchesModel items xs → MatchesModel (opt ys ∷ items) (x ∷ xs)
   takes_none : {ys : List Child} {items : List ModelItem} {xs : List Child} → MatchesModel items xs
       → MatchesModel (opt ys ∷ items) xs
-  takes_more : {ys : List Child} {items : List ModelItem} {x : Child} {xs : List Child} → IsIn ys x
+  takes_more : {ys : List Child} {items : List ModelItem} {x : Child} {xs : List Child}
+      → IsOneOf ys x
       → MatchesModel (any ys ∷ items) xs → MatchesModel (any ys ∷ items) (x ∷ xs)
   takes_no_more : {ys : List Child} {items : List ModelItem} {xs : List Child}
       → MatchesModel items xs → MatchesModel (any ys ∷ items) xs
@@ -141,29 +142,29 @@ Scope = List (List Decl)
 -- the namespace of an element's name, in the scope that ends with its own declarations; the empty
 -- text where it has none
 abbrev pub element_namespace : Scope → Name → List ℕ
-element_namespace c n = unwrap_or (bound c n.prefix) []
+element_namespace c n = unwrap_or (bound_uri c n.prefix) []
 
 -- the kind of a known child
-abbrev pub kind_in : Child → Option ElementKind
-kind_in (known kind) = Some kind
-kind_in foreign = None
-kind_in stray = None
+abbrev pub known_kind : Child → Option ElementKind
+known_kind (known kind) = Some kind
+known_kind foreign = None
+known_kind stray = None
 
 -- the kinds that the model of a kind names, in its order
-abbrev pub children_in : ModelItem → List Child
-children_in (one ys) = ys
-children_in (opt ys) = ys
-children_in (any ys) = ys
+abbrev pub item_children : ModelItem → List Child
+item_children (one ys) = ys
+item_children (opt ys) = ys
+item_children (any ys) = ys
 
 -- the child kind that has this local name
 unfoldable pub child_kind : ElementKind → List ℕ → Option ElementKind
 child_kind row local =
     find (λ kind. bytes_eq local (local_name_of kind))
-    (filter_map kind_in (flat_map children_in (items_in (content_model_of row))))
+    (filter_map known_kind (flat_map item_children (items_in (content_model_of row))))
 
 -- the child kind by namespace and local name
-abbrev pub kind_by : ElementKind → List ℕ → List ℕ → Option ElementKind
-kind_by row space local =
+abbrev pub kind_by_name : ElementKind → List ℕ → List ℕ → Option ElementKind
+kind_by_name row space local =
     if bytes_eq space (namespace_of_children row) then child_kind row local else None
 
 -- the namespace is foreign: another one, and not none
@@ -172,12 +173,12 @@ is_foreign row space = not (bytes_eq space (namespace_of_children row)) && not (
 
 -- the kind of a child, by the kind of its parent; foreign elements have none
 unfoldable pub kind_of : ElementKind → Scope → Name → Option ElementKind
-kind_of row c n = kind_by row (element_namespace c n) n.local
+kind_of row c n = kind_by_name row (element_namespace c n) n.local
 
 -- what a child is in its parent
 unfoldable pub child_class_of : ElementKind → Scope → Name → Child
 child_class_of row c n =
-    option_map_or known (kind_by row (element_namespace c n) n.local)
+    option_map_or known (kind_by_name row (element_namespace c n) n.local)
     (if is_foreign row (element_namespace c n) then foreign else stray)
 
 -- the name of a document's root

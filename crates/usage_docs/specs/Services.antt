@@ -4,7 +4,7 @@ use Rattle.std.specs.Prelude.{◌≡◌, ℕ, ◌+◌, ◌<◌, min, Bool, List,
 use Rattle.std.specs.Prelude.{filter, filter_map, flat_map, is_some, option_and_then}
 use Rattle.xml_tree.specs.Tree.{Tree, tree_of, child_elements_of}
 use Rattle.xml_tree.specs.Nodes.{content_of}
-use Rattle.xml_names.specs.Scopes.{bindings_in}
+use Rattle.xml_names.specs.Scopes.{in_scope_bindings}
 use Rattle.xml_tree.specs.TreeScopes.{inside}
 use Rattle.xml_names.specs.Markup.{byte_len}
 use Rattle.xml_tree.specs.Print.{print}
@@ -18,7 +18,7 @@ use Rattle.usage_docs.specs.declared.service_index.IndexFault.{IndexFault}
 use Rattle.usage_docs.specs.declared.service_index.TheConstants.{INDEX_LIMIT}
 use Rattle.usage_docs.specs.declared.service_index.IndexFault.TheVariants.{TooLarge}
 use Rattle.usage_docs.specs.SchemaTable.{Scope, kind_of, services_namespace}
-use Rattle.usage_docs.specs.Keys.{value_of}
+use Rattle.usage_docs.specs.KeyAttributes.{value_of}
 
 -- whether a child of a root is a service, in the scope inside the root
 abbrev pub is_service : Scope → Tree → Bool
@@ -36,13 +36,13 @@ service_uris t = filter_map (service_uri (t.decls ∷ [])) (child_elements_of t)
 -- ---- the index
 
 -- a service as the index lists it: with all bindings in scope in its own document
-abbrev pub listed_as : Scope → Tree → Tree
-listed_as c e = tree_of e.name (bindings_in (inside c e)) e.attrs e.content
+abbrev pub listed_service : Scope → Tree → Tree
+listed_service c e = tree_of e.name (in_scope_bindings (inside c e)) e.attrs e.content
 
 -- the services of a document, as the index lists them
 abbrev pub service_elements : Tree → List Tree
 service_elements t =
-    map (listed_as (t.decls ∷ [])) (filter (is_service (t.decls ∷ [])) (child_elements_of t))
+    map (listed_service (t.decls ∷ [])) (filter (is_service (t.decls ∷ [])) (child_elements_of t))
 
 -- the name and the one declaration of the index
 unfoldable pub index_name : Name

@@ -5,7 +5,7 @@ use Rattle.std.specs.Prelude.{Option, None, Some}
 use Rattle.xml_tree.specs.Tree.{Tree}
 use Rattle.doc_names.specs.declared.usages.Usage.{Usage}
 use Rattle.usage_docs.specs.UniqueKeys.{HasUniqueKeys, IsFirstClash}
-use Rattle.usage_docs.specs.Forms.{MeetsConstraints}
+use Rattle.usage_docs.specs.ReferenceForms.{MeetsConstraints}
 use Rattle.usage_docs.specs.Validity.{IsValidDocument}
 use Rattle.usage_docs.specs.declared.validation.Fault.{Fault}
 use Rattle.usage_docs.specs.declared.validation.Fault.TheVariants.{Invalid, Unformed, Repeated}

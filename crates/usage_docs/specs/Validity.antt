@@ -12,8 +12,8 @@ use Rattle.usage_docs.specs.declared.schema_table.ElementKind.{ElementKind}
 use Rattle.usage_docs.specs.SchemaTable.{Scope, Child, Model, text_alone, sequence}
 use Rattle.usage_docs.specs.SchemaTable.{content_model_of, items_in, kind_of, child_class_of}
 use Rattle.usage_docs.specs.SchemaTable.{root_kind, is_root, MatchesModel}
-use Rattle.usage_docs.specs.Keys.{attrs_pass}
-use Rattle.usage_docs.specs.Texts.{text_of}
+use Rattle.usage_docs.specs.KeyAttributes.{are_attrs_allowed}
+use Rattle.usage_docs.specs.ContentTexts.{content_text}
 
 -- the model is text alone
 abbrev pub is_text_model : Model → Bool
@@ -22,8 +22,8 @@ is_text_model (sequence items) = false
 
 -- a text is allowed in an element of this kind: any text where the model is text, else white
 -- space alone
-unfoldable pub text_passes : ElementKind → List ℕ → Bool
-text_passes row t = is_text_model (content_model_of row) || list_all is_space t
+unfoldable pub is_text_allowed : ElementKind → List ℕ → Bool
+is_text_allowed row t = is_text_model (content_model_of row) || list_all is_space t
 
 -- the children of an element of this kind, in order, as the content model sees them, in the scope
 -- inside it
@@ -33,32 +33,33 @@ children_of row c content =
 
 -- an element of this kind has the attributes, the text and the children of the kind, in the scope
 -- that ends with its own declarations
-pub record KeepsRow (kind : ElementKind) (c : Scope) (ats : List Attr)
+pub record MatchesKind (kind : ElementKind) (c : Scope) (ats : List Attr)
     (content : Content) : Type 0 where
-  pub attributes : IsTrue (attrs_pass kind c ats)
-  pub text : IsTrue (text_passes kind (text_of content))
+  pub attributes : IsTrue (are_attrs_allowed kind c ats)
+  pub text : IsTrue (is_text_allowed kind (content_text content))
   pub children : MatchesModel (items_in (content_model_of kind)) (children_of kind c content)
 
 -- each element of a kind in the content of an element of this kind has what its kind allows,
 -- however deep
-abbrev pub AllKeep : ElementKind → Scope → Content → Type 0
-AllKeep row c (last t) = Unit {0}
-AllKeep row c (comment_node t inside rest) = AllKeep row c rest
-AllKeep row c (more t n ds ats k rest) =
+abbrev pub AllMatchKinds : ElementKind → Scope → Content → Type 0
+AllMatchKinds row c (last t) = Unit {0}
+AllMatchKinds row c (comment_node t inside rest) = AllMatchKinds row c rest
+AllMatchKinds row c (more t n ds ats k rest) =
     ForSome (kind_of row (c ++ ds ∷ []) n) (λ kind.
-    KeepsRow kind (c ++ ds ∷ []) ats k × AllKeep kind (c ++ ds ∷ []) k)
-    × AllKeep row c rest
+    MatchesKind kind (c ++ ds ∷ []) ats k × AllMatchKinds kind (c ++ ds ∷ []) k)
+    × AllMatchKinds row c rest
 
 -- an element of some kind is valid by itself, in the scope that ends with its own declarations
-abbrev pub ValidInRow : ElementKind → Scope → Tree → Type 0
-ValidInRow kind c e = KeepsRow kind c e.attrs e.content × AllKeep kind c e.content
+abbrev pub IsValidOfKind : ElementKind → Scope → Tree → Type 0
+IsValidOfKind kind c e = MatchesKind kind c e.attrs e.content × AllMatchKinds kind c e.content
 
 -- a child is valid by itself: it has no kind, or is valid by its kind
-abbrev pub ValidChild : ElementKind → Scope → Tree → Type 0
-ValidChild row c e =
-    ForSome (kind_of row (c ++ e.decls ∷ []) e.name) (λ kind. ValidInRow kind (c ++ e.decls ∷ []) e)
+abbrev pub IsValidChild : ElementKind → Scope → Tree → Type 0
+IsValidChild row c e =
+    ForSome (kind_of row (c ++ e.decls ∷ []) e.name)
+    (λ kind. IsValidOfKind kind (c ++ e.decls ∷ []) e)
 
 -- a document of the usage
 pub record IsValidDocument (u : Usage) (t : Tree) : Type 0 where
   pub root : IsTrue (is_root u (t.decls ∷ []) t.name)
-  pub valid : ValidInRow (root_kind u) (t.decls ∷ []) t
+  pub valid : IsValidOfKind (root_kind u) (t.decls ∷ []) t

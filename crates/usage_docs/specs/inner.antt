@@ -1,4 +1,4 @@
 -- Definitions for private functions and proofs; no public clause needs them.
-pub mod Indexes
-pub mod Kinds
+pub mod KindsBelow
 pub mod PathTrails
+pub mod ServiceIndexes

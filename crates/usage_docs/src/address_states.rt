@@ -3,10 +3,11 @@
 ghost use Rattle.std.specs.Prelude.{◌≡◌, ◌==◌, if◌then◌else◌, chars, fold};
 ghost use Rattle.usage_docs.specs.declared.address_states.AddressState.TheVariants.{Other};
 ghost use Rattle.usage_docs.specs.declared.address_states.SegmentState.TheVariants.{Empty};
-ghost use Rattle.usage_docs.specs.Forms.{is_http, is_reference, trim_text};
-ghost use Rattle.usage_docs.specs.Texts.{text_of};
-ghost use Rattle.usage_docs.specs.readers.AddressStates.{white, address_after, is_address};
-ghost use Rattle.usage_docs.specs.readers.AddressStates.{segment_after, is_segment};
+ghost use Rattle.usage_docs.specs.ReferenceForms.{is_http_uri, is_relative_reference, trim_text};
+ghost use Rattle.usage_docs.specs.ContentTexts.{content_text};
+ghost use Rattle.usage_docs.specs.readers.AddressStates.{is_trimmed_space, address_state_after};
+ghost use Rattle.usage_docs.specs.readers.AddressStates.{is_whole_address};
+ghost use Rattle.usage_docs.specs.readers.AddressStates.{segment_state_after, is_reference_segment};
 
 use xml_names::is_space;
 use xml_tree::{Element, Node};
@@ -39,13 +40,13 @@ pub(crate) enum SegmentState {
 
 // Whether a letter is white space that is ignored at the ends.
 fn is_white(trims: bool, letter: char) -> bool
-    ensures exact { result ≡ white trims letter }
+    ensures exact { result ≡ is_trimmed_space trims letter }
 {
     trims && is_space(letter)
 }
 
 // The next state, if the letter is the expected one.
-fn advance(letter: char, expected: char, next: AddressState) -> AddressState
+fn state_if_letter(letter: char, expected: char, next: AddressState) -> AddressState
     ensures exact { result ≡ (if letter == expected then next else Other) }
 {
     if letter == expected {
@@ -56,20 +57,20 @@ fn advance(letter: char, expected: char, next: AddressState) -> AddressState
 }
 
 // The address after one more letter.
-fn address_after(trims: bool, address: AddressState, letter: char) -> AddressState
-    ensures exact { result ≡ address_after (white trims) address letter }
+fn address_state_after(trims: bool, address: AddressState, letter: char) -> AddressState
+    ensures exact { result ≡ address_state_after (is_trimmed_space trims) address letter }
 {
     match address {
         AddressState::Start if is_white(trims, letter) => AddressState::Start,
-        AddressState::Start => advance(letter, 'h', AddressState::H),
-        AddressState::H => advance(letter, 't', AddressState::Ht),
-        AddressState::Ht => advance(letter, 't', AddressState::Htt),
-        AddressState::Htt => advance(letter, 'p', AddressState::Http),
+        AddressState::Start => state_if_letter(letter, 'h', AddressState::H),
+        AddressState::H => state_if_letter(letter, 't', AddressState::Ht),
+        AddressState::Ht => state_if_letter(letter, 't', AddressState::Htt),
+        AddressState::Htt => state_if_letter(letter, 'p', AddressState::Http),
         AddressState::Http if letter == ':' => AddressState::Colon,
-        AddressState::Http => advance(letter, 's', AddressState::Https),
-        AddressState::Https => advance(letter, ':', AddressState::Colon),
-        AddressState::Colon => advance(letter, '/', AddressState::Slash),
-        AddressState::Slash => advance(letter, '/', AddressState::Whole),
+        AddressState::Http => state_if_letter(letter, 's', AddressState::Https),
+        AddressState::Https => state_if_letter(letter, ':', AddressState::Colon),
+        AddressState::Colon => state_if_letter(letter, '/', AddressState::Slash),
+        AddressState::Slash => state_if_letter(letter, '/', AddressState::Whole),
         AddressState::Whole if is_white(trims, letter) => AddressState::Whole,
         AddressState::Whole => AddressState::GoesOn,
         AddressState::GoesOn => AddressState::GoesOn,
@@ -79,18 +80,19 @@ fn address_after(trims: bool, address: AddressState, letter: char) -> AddressSta
 
 impl AddressState {
     // The address after one more text.
-    fn and(self, trims: bool, text: &str) -> AddressState
-        ensures exact { result ≡ fold (address_after (white trims)) self (chars text.now) }
+    fn after_text(self, trims: bool, text: &str) -> AddressState
+        ensures exact { result
+            ≡ fold (address_state_after (is_trimmed_space trims)) self (chars text.now) }
     {
         text.chars().fold(
             self,
-            |address, letter| address_after(trims, address, letter),
+            |address, letter| address_state_after(trims, address, letter),
         )
     }
 
     // Whether the address is whole and has more.
-    fn goes_on(self) -> bool
-        ensures exact { result ≡ is_address self }
+    fn is_whole(self) -> bool
+        ensures exact { result ≡ is_whole_address self }
     {
         matches!(self, AddressState::GoesOn)
     }
@@ -98,30 +100,30 @@ impl AddressState {
 
 /// Whether a text is an address of HTTP.
 #[tactic(auto, using(crate::proofs::Addresses::address_is))]
-pub(crate) fn is_http(text: &str) -> bool
-    ensures exact { result ≡ is_http (chars text.now) }
+pub(crate) fn is_http_uri(text: &str) -> bool
+    ensures exact { result ≡ is_http_uri (chars text.now) }
 {
-    AddressState::Start.and(false, text).goes_on()
+    AddressState::Start.after_text(false, text).is_whole()
 }
 
 /// Whether the text of an element's content is an address of HTTP, without the white space at its
 /// ends.
-pub(crate) fn is_http_inside(element: &Element) -> bool
-    ensures exact { result ≡ is_http (trim_text (text_of element.now.content)) }
+pub(crate) fn is_http_uri_inside(element: &Element) -> bool
+    ensures exact { result ≡ is_http_uri (trim_text (content_text element.now.content)) }
 {
     let mut address = AddressState::Start;
     for node in element.nodes() {
         if let Node::Chars(text) = node {
-            address = address.and(true, text.as_str());
+            address = address.after_text(true, text.as_str());
         }
     }
-    address.goes_on()
+    address.is_whole()
 }
 
 impl SegmentState {
     // Whether it is a segment that a relative reference may begin with.
-    fn is_right(self) -> bool
-        ensures exact { result ≡ is_segment self }
+    fn is_valid_segment(self) -> bool
+        ensures exact { result ≡ is_reference_segment self }
     {
         match self {
             SegmentState::Empty => false,
@@ -133,8 +135,8 @@ impl SegmentState {
 }
 
 // The first segment after one more letter.
-fn segment_after(segment: SegmentState, letter: char) -> SegmentState
-    ensures exact { result ≡ segment_after segment letter }
+fn segment_state_after(segment: SegmentState, letter: char) -> SegmentState
+    ensures exact { result ≡ segment_state_after segment letter }
 {
     match segment {
         SegmentState::Empty if letter == '/' => SegmentState::Wrong,
@@ -150,18 +152,18 @@ fn segment_after(segment: SegmentState, letter: char) -> SegmentState
 
 // The first segment of a text.
 fn first_segment(text: &str) -> SegmentState
-    ensures segment_in_front { result ≡ fold segment_after Empty (chars text.now) }
+    ensures segment_in_front { result ≡ fold segment_state_after Empty (chars text.now) }
 {
     text.chars().fold(
         SegmentState::Empty,
-        |segment, letter| segment_after(segment, letter),
+        |segment, letter| segment_state_after(segment, letter),
     )
 }
 
 /// Whether a text is a relative reference that begins with a segment.
 #[tactic(auto, using(crate::proofs::Segments::segment_is))]
-pub(crate) fn is_reference(text: &str) -> bool
-    ensures exact { result ≡ is_reference (chars text.now) }
+pub(crate) fn is_relative_reference(text: &str) -> bool
+    ensures exact { result ≡ is_relative_reference (chars text.now) }
 {
-    first_segment(text).is_right()
+    first_segment(text).is_valid_segment()
 }

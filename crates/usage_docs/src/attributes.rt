@@ -6,9 +6,11 @@ ghost use Rattle.usage_docs.specs.SchemaTable.{lists_namespace, services_namespa
 ghost use Rattle.usage_docs.specs.SchemaTable.{element_namespace};
 ghost use Rattle.std.specs.List.{list_all};
 ghost use Rattle.std.specs.Option.{option_map_or};
-ghost use Rattle.usage_docs.specs.Words.{is_ascii};
-ghost use Rattle.usage_docs.specs.Keys.{word, attribute_of, key_of, is_key, value_of, key_value};
-ghost use Rattle.usage_docs.specs.Keys.{attr_passes, attrs_pass, is_present};
+ghost use Rattle.usage_docs.specs.AsciiTexts.{is_ascii};
+ghost use Rattle.usage_docs.specs.KeyAttributes.{attribute_name, attribute_of, key_of};
+ghost use Rattle.usage_docs.specs.KeyAttributes.{is_key_attribute, value_of, key_value};
+ghost use Rattle.usage_docs.specs.KeyAttributes.{is_attr_allowed, are_attrs_allowed};
+ghost use Rattle.usage_docs.specs.KeyAttributes.{has_required_attribute};
 
 use crate::schema_table::{
     Attribute, ElementKind, Key, is_word, lists_namespace, services_namespace,
@@ -18,9 +20,9 @@ use xml_tree::LinkedScope;
 
 impl Key {
     /// The local name of the attribute. Does not allocate.
-    #[tactic(auto, unfolding(crate::specs::Keys::word))]
-    pub fn word(self) -> &'static str
-        ensures expected_word { result.now ≡ word self }
+    #[tactic(auto, unfolding(crate::specs::KeyAttributes::attribute_name))]
+    pub fn attribute_name(self) -> &'static str
+        ensures expected_word { result.now ≡ attribute_name self }
         ensures is_ascii_alone { IsTrue (is_ascii result.now) }
     {
         match self {
@@ -33,7 +35,7 @@ impl Key {
 }
 
 /// The attributes without a namespace that an element of a kind may have. Does not allocate.
-#[tactic(auto, unfolding(crate::specs::Keys::attribute_of))]
+#[tactic(auto, unfolding(crate::specs::KeyAttributes::attribute_of))]
 fn attribute_of(kind: ElementKind) -> Attribute
     ensures exact { result ≡ attribute_of kind }
 {
@@ -49,7 +51,7 @@ fn attribute_of(kind: ElementKind) -> Attribute
 
 /// The one attribute without a namespace that an element of this kind takes, which is its key.
 /// Does not allocate.
-#[tactic(auto, unfolding(crate::specs::Keys::key_of))]
+#[tactic(auto, unfolding(crate::specs::KeyAttributes::key_of))]
 pub fn key_of(kind: ElementKind) -> Option<Key>
     ensures exact { result ≡ key_of kind }
 {
@@ -61,19 +63,20 @@ pub fn key_of(kind: ElementKind) -> Option<Key>
 }
 
 // Whether an attribute is unprefixed and has this key's name.
-fn is_key(key: Key, attr: &Attr) -> bool
-    ensures exact { result ≡ is_key key attr.now }
+fn is_key_attribute(key: Key, attr: &Attr) -> bool
+    ensures exact { result ≡ is_key_attribute key attr.now }
 {
-    is_word(attr.name.prefix.as_str(), "") && is_word(attr.name.local.as_str(), key.word())
+    is_word(attr.name.prefix.as_str(), "")
+        && is_word(attr.name.local.as_str(), key.attribute_name())
 }
 
 // The text of a key, if it is there.
-#[tactic(auto, unfolding(crate::specs::Keys::value_of))]
-fn text_of<'a>(key: Key, attrs: &'a [Attr]) -> Option<&'a Text>
+#[tactic(auto, unfolding(crate::specs::KeyAttributes::value_of))]
+fn key_attribute_text<'a>(key: Key, attrs: &'a [Attr]) -> Option<&'a Text>
     ensures exact { option_map (λ text. text.now) result ≡ value_of key attrs.now }
 {
     for attr in attrs {
-        if is_key(key, attr) {
+        if is_key_attribute(key, attr) {
             return Some(&attr.value);
         }
     }
@@ -84,19 +87,19 @@ fn text_of<'a>(key: Key, attrs: &'a [Attr]) -> Option<&'a Text>
 pub fn value_of<'a>(key: Key, attrs: &'a [Attr]) -> Option<&'a str>
     ensures exact { option_map (λ value. chars value.now) result ≡ value_of key attrs.now }
 {
-    match text_of(key, attrs) {
+    match key_attribute_text(key, attrs) {
         Some(text) => Some(text.as_str()),
         None => None,
     }
 }
 
 /// The text of the key that elements of this kind have, if it is there. Does not allocate.
-#[tactic(auto, unfolding(crate::specs::Keys::key_value))]
+#[tactic(auto, unfolding(crate::specs::KeyAttributes::key_value))]
 pub(crate) fn key_text<'a>(kind: ElementKind, attrs: &'a [Attr]) -> Option<&'a Text>
     ensures exact { option_map (λ text. text.now) result ≡ key_value kind attrs.now }
 {
     match key_of(kind) {
-        Some(key) => text_of(key, attrs),
+        Some(key) => key_attribute_text(key, attrs),
         None => None,
     }
 }
@@ -122,7 +125,7 @@ fn element_namespace<'a>(scope: &LinkedScope<'a>, attr: &Attr) -> &'a str
 }
 
 // Whether a namespace is of neither document type.
-fn is_other_space(space: &str) -> bool
+fn is_foreign_namespace(space: &str) -> bool
     ensures exact { result
         ≡ (not (bytes_eq (chars space.now) lists_namespace) && not
         (bytes_eq (chars space.now) services_namespace)) }
@@ -131,30 +134,31 @@ fn is_other_space(space: &str) -> bool
 }
 
 // Whether this is the local name of the kind's own attribute.
-fn is_own_word(row: ElementKind, local: &str) -> bool
+fn is_own_attribute(row: ElementKind, local: &str) -> bool
     ensures exact { result
-        ≡ option_map_or (λ key. bytes_eq (chars local.now) (word key)) (key_of row) false }
+        ≡ option_map_or
+        (λ key. bytes_eq (chars local.now) (attribute_name key)) (key_of row) false }
 {
     match key_of(row) {
-        Some(key) => is_word(local, key.word()),
+        Some(key) => is_word(local, key.attribute_name()),
         None => false,
     }
 }
 
 // Whether an attribute is allowed in an element of this kind.
-#[tactic(auto, unfolding(crate::specs::Keys::attr_passes))]
-fn attr_passes(row: ElementKind, scope: &LinkedScope<'_>, attr: &Attr) -> bool
-    ensures exact { result ≡ attr_passes row scope.now attr.now }
+#[tactic(auto, unfolding(crate::specs::KeyAttributes::is_attr_allowed))]
+fn is_attr_allowed(row: ElementKind, scope: &LinkedScope<'_>, attr: &Attr) -> bool
+    ensures exact { result ≡ is_attr_allowed row scope.now attr.now }
 {
     if is_word(attr.name.prefix.as_str(), "") {
-        return is_own_word(row, attr.name.local.as_str());
+        return is_own_attribute(row, attr.name.local.as_str());
     }
-    is_other_space(element_namespace(scope, attr))
+    is_foreign_namespace(element_namespace(scope, attr))
 }
 
 // Whether the required attribute of an element of this kind is there, if it has one.
-fn has_needed(row: ElementKind, attrs: &[Attr]) -> bool
-    ensures exact { result ≡ is_present (attribute_of row) attrs.now }
+fn has_required(row: ElementKind, attrs: &[Attr]) -> bool
+    ensures exact { result ≡ has_required_attribute (attribute_of row) attrs.now }
 {
     match attribute_of(row) {
         Attribute::Must(key) => has_value(key, attrs),
@@ -171,11 +175,11 @@ fn has_value(key: Key, attrs: &[Attr]) -> bool
 }
 
 // Whether each attribute is allowed in an element of this kind.
-fn all_pass(row: ElementKind, scope: &LinkedScope<'_>, attrs: &[Attr]) -> bool
-    ensures exact { result ≡ list_all (attr_passes row scope.now) attrs.now }
+fn are_all_allowed(row: ElementKind, scope: &LinkedScope<'_>, attrs: &[Attr]) -> bool
+    ensures exact { result ≡ list_all (is_attr_allowed row scope.now) attrs.now }
 {
     for attr in attrs {
-        if !attr_passes(row, scope, attr) {
+        if !is_attr_allowed(row, scope, attr) {
             return false;
         }
     }
@@ -184,9 +188,9 @@ fn all_pass(row: ElementKind, scope: &LinkedScope<'_>, attrs: &[Attr]) -> bool
 
 /// Whether an element of this kind may have these attributes, in the scope that ends with its own
 /// declarations. Does not allocate.
-#[tactic(auto, unfolding(crate::specs::Keys::attrs_pass))]
-pub fn attrs_pass(row: ElementKind, scope: &LinkedScope<'_>, attrs: &[Attr]) -> bool
-    ensures exact { result ≡ attrs_pass row scope.now attrs.now }
+#[tactic(auto, unfolding(crate::specs::KeyAttributes::are_attrs_allowed))]
+pub fn are_attrs_allowed(row: ElementKind, scope: &LinkedScope<'_>, attrs: &[Attr]) -> bool
+    ensures exact { result ≡ are_attrs_allowed row scope.now attrs.now }
 {
-    all_pass(row, scope, attrs) && has_needed(row, attrs)
+    are_all_allowed(row, scope, attrs) && has_required(row, attrs)
 }

@@ -2,26 +2,26 @@
 //! with each key is compared with the child's own number.
 ghost use Rattle.std.specs.Prelude.{◌≡◌, ◌↔◌, ◌<◌, ℕ, IsTrue, Some, length, option_map};
 ghost use Rattle.xml_tree.specs.Tree.{child_elements_of};
-ghost use Rattle.usage_docs.specs.UniqueKeys.{mark, mark_at, mark_of};
-ghost use Rattle.usage_docs.specs.readers.Repeats.{IsFirstRepeat};
-ghost use Rattle.usage_docs.specs.readers.Siblings.{node_children};
+ghost use Rattle.usage_docs.specs.UniqueKeys.{sibling_key, sibling_key_at, sibling_key_of};
+ghost use Rattle.usage_docs.specs.readers.KeyRepeats.{IsFirstRepeat};
+ghost use Rattle.usage_docs.specs.readers.SiblingElements.{node_children};
 
 use crate::attributes::{key_of, key_text};
-use crate::keys::KeyRepeat;
+use crate::key_repeats::KeyRepeat;
 use crate::schema_table::{ElementKind, kind_of};
 use std::alloc::Global;
 use xml_names::{IndexedDecls, Text};
 use xml_tree::{Element, LinkedScope, Node};
 
 // The kind of a child, by the kind of its parent, and the value of its key, if it has both.
-fn mark_of<'a>(
+fn sibling_key_of<'a>(
     alloc: Global,
     row: ElementKind,
     scope: &LinkedScope<'_>,
     child_element: &'a Element,
 ) -> Option<(ElementKind, &'a Text)>
-    ensures exact { option_map (λ x. mark x.0 x.1.now) result
-        ≡ mark_of row scope.now child_element.now }
+    ensures exact { option_map (λ x. sibling_key x.0 x.1.now) result
+        ≡ sibling_key_of row scope.now child_element.now }
 {
     let declared = IndexedDecls::new(alloc, child_element.decls());
     let inside = (&*scope).inside(&declared);
@@ -35,7 +35,7 @@ fn mark_of<'a>(
 }
 
 // Whether a child has this kind and this value of its key.
-fn has_mark(
+fn has_sibling_key(
     alloc: Global,
     row: ElementKind,
     scope: &LinkedScope<'_>,
@@ -44,9 +44,9 @@ fn has_mark(
     value: &Text,
 ) -> bool
     ensures exact { IsTrue result
-        ↔ (mark_of row scope.now child_element.now ≡ Some (mark kind value.now)) }
+        ↔ (sibling_key_of row scope.now child_element.now ≡ Some (sibling_key kind value.now)) }
 {
-    match mark_of(alloc, row, scope, child_element) {
+    match sibling_key_of(alloc, row, scope, child_element) {
         Some(own) => own.0 == kind && own.1 == value,
         None => false,
     }
@@ -54,7 +54,7 @@ fn has_mark(
 
 // The number of the first child that has this kind and this value of its key; the number of
 // children where none has.
-fn first_marked(
+fn find_first_with_key(
     alloc: Global,
     row: ElementKind,
     scope: &LinkedScope<'_>,
@@ -63,14 +63,16 @@ fn first_marked(
     value: &Text,
 ) -> usize
     ensures none_before { (j : ℕ) → j < result
-        → mark_at row scope.now (node_children nodes.now) j ≡ Some (mark kind value.now) → ⊥ }
+        → sibling_key_at row scope.now (node_children nodes.now) j
+        ≡ Some (sibling_key kind value.now) → ⊥ }
     ensures marked_there { result < length (node_children nodes.now)
-        → mark_at row scope.now (node_children nodes.now) result ≡ Some (mark kind value.now) }
+        → sibling_key_at row scope.now (node_children nodes.now) result
+        ≡ Some (sibling_key kind value.now) }
 {
     let mut child: usize = 0;
     for node in nodes {
         if let Node::Elem(child_element) = node {
-            if has_mark(alloc, row, scope, child_element, kind, value) {
+            if has_sibling_key(alloc, row, scope, child_element, kind, value) {
                 return child;
             }
             child += 1;
@@ -80,7 +82,7 @@ fn first_marked(
 }
 
 /// The first child that has the kind and the key of an earlier one.
-pub(crate) fn scanned_repeat(
+pub(crate) fn scan_for_repeat(
     alloc: Global,
     row: ElementKind,
     scope: &LinkedScope<'_>,
@@ -92,8 +94,8 @@ pub(crate) fn scanned_repeat(
     let mut child: usize = 0;
     for node in nodes {
         if let Node::Elem(child_element) = node {
-            if let Some((kind, value)) = mark_of(alloc, row, scope, child_element) {
-                if first_marked(alloc, row, scope, nodes, kind, value) < child {
+            if let Some((kind, value)) = sibling_key_of(alloc, row, scope, child_element) {
+                if find_first_with_key(alloc, row, scope, nodes, kind, value) < child {
                     let Some(key) = key_of(kind) else {
                         return None;
                     };

@@ -1,15 +1,16 @@
 //! Children by numbers, checked from left to right (RFC 4826, sections 3.2 and 4.2).
 ghost use Rattle.std.specs.Prelude.{◌≡◌, chars, if◌then◌else◌};
 ghost use Rattle.usage_docs.specs.SchemaTable.{foreign, stray, is_foreign, kind_of};
-ghost use Rattle.usage_docs.specs.readers.Parts.{part_of_kind, foreign_part, single_parts};
-ghost use Rattle.usage_docs.specs.readers.Parts.{needs_first, follows, part_in, part_of};
+ghost use Rattle.usage_docs.specs.readers.ContentParts.{part_of_kind, foreign_part, single_parts};
+ghost use Rattle.usage_docs.specs.readers.ContentParts.{needs_first, may_follow, part_of_class};
+ghost use Rattle.usage_docs.specs.readers.ContentParts.{part_of};
 
-use crate::schema_table::{ElementKind, element_namespace, is_foreign, kind_by};
+use crate::schema_table::{ElementKind, element_namespace, is_foreign, kind_by_name};
 use xml_names::Name;
 use xml_tree::LinkedScope;
 
 // The part of a child of some kind.
-#[tactic(auto, unfolding(crate::specs::readers::Parts::part_of_kind))]
+#[tactic(auto, unfolding(crate::specs::readers::ContentParts::part_of_kind))]
 fn part_of_kind(row: ElementKind, kind: ElementKind) -> u8
     ensures exact { result ≡ part_of_kind row kind }
 {
@@ -33,7 +34,7 @@ fn part_of_kind(row: ElementKind, kind: ElementKind) -> u8
 }
 
 // The part of the foreign elements.
-#[tactic(auto, unfolding(crate::specs::readers::Parts::foreign_part))]
+#[tactic(auto, unfolding(crate::specs::readers::ContentParts::foreign_part))]
 fn foreign_part(row: ElementKind) -> u8
     ensures exact { result ≡ foreign_part row }
 {
@@ -46,7 +47,7 @@ fn foreign_part(row: ElementKind) -> u8
 }
 
 // How many of the first parts take at most one child.
-#[tactic(auto, unfolding(crate::specs::readers::Parts::single_parts))]
+#[tactic(auto, unfolding(crate::specs::readers::ContentParts::single_parts))]
 fn single_parts(row: ElementKind) -> u8
     ensures exact { result ≡ single_parts row }
 {
@@ -61,7 +62,7 @@ fn single_parts(row: ElementKind) -> u8
 }
 
 // Whether the first part is required.
-#[tactic(auto, unfolding(crate::specs::readers::Parts::needs_first))]
+#[tactic(auto, unfolding(crate::specs::readers::ContentParts::needs_first))]
 fn needs_first(row: ElementKind) -> bool
     ensures exact { result ≡ needs_first row }
 {
@@ -71,9 +72,9 @@ fn needs_first(row: ElementKind) -> bool
 /// Whether a child of the part `next` may come directly after one of the part `before`, in an
 /// element of this kind. Parts count from 1; part 0 is before the first child, the part `END`
 /// after the last one. Does not allocate.
-#[tactic(auto, unfolding(crate::specs::readers::Parts::follows))]
-pub fn follows(row: ElementKind, before: u8, next: u8) -> bool
-    ensures exact { result ≡ follows row before next }
+#[tactic(auto, unfolding(crate::specs::readers::ContentParts::may_follow))]
+pub fn may_follow(row: ElementKind, before: u8, next: u8) -> bool
+    ensures exact { result ≡ may_follow row before next }
 {
     let in_order = before < next || (before == next && single_parts(row) < next);
     let passed_over = needs_first(row) && before == 0 && 1 < next;
@@ -94,13 +95,13 @@ pub(crate) struct Placed {
 
 /// The part and the kind of a child, by the kind of its parent and the scope that ends with its
 /// own declarations. Does not allocate.
-#[tactic(auto, unfolding(crate::specs::readers::Parts::part_of, crate::specs::SchemaTable::child_class_of, crate::specs::SchemaTable::kind_of))]
-pub(crate) fn place_of(row: ElementKind, scope: &LinkedScope<'_>, name: &Name) -> Placed
+#[tactic(auto, unfolding(crate::specs::readers::ContentParts::part_of, crate::specs::SchemaTable::child_class_of, crate::specs::SchemaTable::kind_of))]
+pub(crate) fn find_placement(row: ElementKind, scope: &LinkedScope<'_>, name: &Name) -> Placed
     ensures child_part { result.part ≡ part_of row scope.now name.now }
     ensures child_kind { result.kind ≡ kind_of row scope.now name.now }
 {
     let space = element_namespace(scope, name);
-    match kind_by(row, space, &name.local) {
+    match kind_by_name(row, space, &name.local) {
         Some(kind) => Placed {
             part: part_of_kind(row, kind),
             kind: Some(kind),
@@ -116,13 +117,13 @@ pub(crate) fn place_of(row: ElementKind, scope: &LinkedScope<'_>, name: &Name) -
 pub fn part_of(row: ElementKind, scope: &LinkedScope<'_>, name: &Name) -> u8
     ensures child_part { result ≡ part_of row scope.now name.now }
 {
-    place_of(row, scope, name).part
+    find_placement(row, scope, name).part
 }
 
 // The part of a child that has no kind.
 fn part_without_kind(row: ElementKind, space: &str) -> u8
     ensures exact { result
-        ≡ part_in row (if is_foreign row (chars space.now) then foreign else stray) }
+        ≡ part_of_class row (if is_foreign row (chars space.now) then foreign else stray) }
 {
     if is_foreign(row, space) {
         foreign_part(row)

@@ -15,26 +15,25 @@ mod capabilities;
 mod child_scan;
 mod content_parts;
 mod element_maker;
-mod insertions;
-mod keys;
-mod laws;
-mod lengths;
+mod insertion_laws;
+mod key_repeats;
 mod path_trail;
 mod reference_forms;
 mod schema_table;
 mod service_index;
+mod service_lengths;
 mod service_uris;
 mod validation;
+mod validation_laws;
 mod validation_result;
 mod validity;
 
-pub use attributes::{attrs_pass, key_of, key_value, value_of};
+pub use attributes::{are_attrs_allowed, key_of, key_value, value_of};
 pub use capabilities::capabilities_document;
-pub use content_parts::{END, follows, part_of};
-pub use insertions::insertion_is_local;
-pub use keys::Clash;
-pub use laws::each_tree_has_one_judgement;
-pub use reference_forms::is_formed;
+pub use content_parts::{END, may_follow, part_of};
+pub use insertion_laws::insertion_is_local;
+pub use key_repeats::Clash;
+pub use reference_forms::are_references_formed;
 pub use schema_table::{ElementKind, Key, is_root, kind_of, root_kind};
 pub use service_index::{INDEX_LIMIT, IndexBuilder, IndexFault};
 pub use service_uris::{ServiceUris, services};
@@ -42,3 +41,4 @@ pub use validation::{
     Fault, clash_below, constraints, first_clash, first_fault, is_formed_child, is_valid_child,
     schema,
 };
+pub use validation_laws::each_tree_has_one_judgement;

@@ -31,9 +31,9 @@ impl<'a> Model for Trail<'a> {
 
     ghost coded = { coded_list coded_ℕ };
 
-    ghost use Rattle.usage_docs.specs.inner.PathTrails.{numbers_at};
+    ghost use Rattle.usage_docs.specs.inner.PathTrails.{trail_numbers};
 
-    ghost view = { λ t. numbers_at t.step };
+    ghost view = { λ t. trail_numbers t.step };
 
     ghost size = { length };
 

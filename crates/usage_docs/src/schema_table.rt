@@ -1,11 +1,12 @@
 //! The schema table: what an element may contain, by its kind (RFC 4826, sections 3.2 and 4.2).
 ghost use Rattle.std.specs.Prelude.{◌≡◌, Some, None, IsTrue, chars, if◌then◌else◌};
-ghost use Rattle.usage_docs.specs.Words.{is_ascii};
+ghost use Rattle.usage_docs.specs.AsciiTexts.{is_ascii};
 ghost use Rattle.std.specs.Str.{bytes_eq};
 ghost use Rattle.usage_docs.specs.declared.schema_table.ElementKind.TheVariants as ElementKind;
 ghost use Rattle.usage_docs.specs.SchemaTable.{lists_namespace, services_namespace, root_kind};
 ghost use Rattle.usage_docs.specs.SchemaTable.{local_name_of, namespace_of_children, child_kind};
-ghost use Rattle.usage_docs.specs.SchemaTable.{element_namespace, kind_by, is_foreign, kind_of};
+ghost use Rattle.usage_docs.specs.SchemaTable.{element_namespace, kind_by_name, is_foreign};
+ghost use Rattle.usage_docs.specs.SchemaTable.{kind_of};
 ghost use Rattle.usage_docs.specs.SchemaTable.{is_root};
 
 use doc_names::Usage;
@@ -122,20 +123,20 @@ fn child_kind(row: ElementKind, local: &LocalName) -> Option<ElementKind>
     ensures exact { result ≡ child_kind row local.now }
 {
     match row {
-        ElementKind::ResourceLists => only(local, "list", ElementKind::EntryList),
-        ElementKind::EntryList => child_of_list(local),
-        ElementKind::Entry => only(local, "display-name", ElementKind::DisplayName),
-        ElementKind::EntryRef => only(local, "display-name", ElementKind::DisplayName),
-        ElementKind::External => only(local, "display-name", ElementKind::DisplayName),
-        ElementKind::RlsServices => only(local, "service", ElementKind::Service),
-        ElementKind::Service => child_of_service(local),
-        ElementKind::Packages => only(local, "package", ElementKind::Package),
+        ElementKind::ResourceLists => kind_if_word(local, "list", ElementKind::EntryList),
+        ElementKind::EntryList => list_child_kind(local),
+        ElementKind::Entry => kind_if_word(local, "display-name", ElementKind::DisplayName),
+        ElementKind::EntryRef => kind_if_word(local, "display-name", ElementKind::DisplayName),
+        ElementKind::External => kind_if_word(local, "display-name", ElementKind::DisplayName),
+        ElementKind::RlsServices => kind_if_word(local, "service", ElementKind::Service),
+        ElementKind::Service => service_child_kind(local),
+        ElementKind::Packages => kind_if_word(local, "package", ElementKind::Package),
         ElementKind::DisplayName | ElementKind::ResourceList | ElementKind::Package => None,
     }
 }
 
 // This kind, if the name is this word.
-fn only(local: &LocalName, word: &str, kind: ElementKind) -> Option<ElementKind>
+fn kind_if_word(local: &LocalName, word: &str, kind: ElementKind) -> Option<ElementKind>
     requires { IsTrue (is_ascii word.now) }
     ensures exact { result ≡ (if bytes_eq local.now word.now then Some kind else None) }
 {
@@ -148,7 +149,7 @@ fn only(local: &LocalName, word: &str, kind: ElementKind) -> Option<ElementKind>
 
 // A child of a list.
 #[tactic(auto, unfolding(crate::specs::SchemaTable::child_kind, crate::specs::SchemaTable::content_model_of, crate::specs::SchemaTable::local_name_of))]
-fn child_of_list(local: &LocalName) -> Option<ElementKind>
+fn list_child_kind(local: &LocalName) -> Option<ElementKind>
     ensures exact { result ≡ child_kind ElementKind.EntryList local.now }
 {
     if is_word(local.as_str(), "display-name") {
@@ -163,12 +164,12 @@ fn child_of_list(local: &LocalName) -> Option<ElementKind>
     if is_word(local.as_str(), "entry") {
         return Some(ElementKind::Entry);
     }
-    only(local, "entry-ref", ElementKind::EntryRef)
+    kind_if_word(local, "entry-ref", ElementKind::EntryRef)
 }
 
 // A child of a service.
 #[tactic(auto, unfolding(crate::specs::SchemaTable::child_kind, crate::specs::SchemaTable::content_model_of, crate::specs::SchemaTable::local_name_of))]
-fn child_of_service(local: &LocalName) -> Option<ElementKind>
+fn service_child_kind(local: &LocalName) -> Option<ElementKind>
     ensures exact { result ≡ child_kind ElementKind.Service local.now }
 {
     if is_word(local.as_str(), "resource-list") {
@@ -177,7 +178,7 @@ fn child_of_service(local: &LocalName) -> Option<ElementKind>
     if is_word(local.as_str(), "list") {
         return Some(ElementKind::EntryList);
     }
-    only(local, "packages", ElementKind::Packages)
+    kind_if_word(local, "packages", ElementKind::Packages)
 }
 
 // The namespace of an element's name, in the scope that ends with its own declarations.
@@ -199,8 +200,8 @@ pub(crate) fn is_word(text: &str, word: &str) -> bool
 }
 
 // A child's kind by its expanded name.
-pub(crate) fn kind_by(row: ElementKind, space: &str, local: &LocalName) -> Option<ElementKind>
-    ensures exact { result ≡ kind_by row (chars space.now) local.now }
+pub(crate) fn kind_by_name(row: ElementKind, space: &str, local: &LocalName) -> Option<ElementKind>
+    ensures exact { result ≡ kind_by_name row (chars space.now) local.now }
 {
     if is_word(space, own_namespace(row)) {
         child_kind(row, local)
@@ -222,7 +223,7 @@ pub(crate) fn is_foreign(row: ElementKind, space: &str) -> bool
 pub fn kind_of(row: ElementKind, scope: &LinkedScope<'_>, name: &Name) -> Option<ElementKind>
     ensures child_kind { result ≡ kind_of row scope.now name.now }
 {
-    kind_by(row, element_namespace(scope, name), &name.local)
+    kind_by_name(row, element_namespace(scope, name), &name.local)
 }
 
 /// Whether a name is the name of a document's root, in the scope of the root's declarations. Does

@@ -1,13 +1,13 @@
 //! The index of the services of many documents (RFC 4826, section 4).
 ghost use Rattle.std.specs.Prelude.{◌≡◌, ◌≤◌, ◌∷◌, [], ◌++◌, map, IfOk, IfErr, OnOk, OnErr};
 ghost use Rattle.xml_tree.specs.declared.tree.Node.TheVariants.{Elem};
-ghost use Rattle.usage_docs.specs.Services.{is_service, listed_as, service_elements, index_of};
+ghost use Rattle.usage_docs.specs.Services.{is_service, listed_service, service_elements, index_of};
 ghost use Rattle.usage_docs.specs.readers.ServiceNodes.{listed_nodes};
-ghost use Rattle.usage_docs.specs.inner.Indexes.{len_with};
+ghost use Rattle.usage_docs.specs.inner.ServiceIndexes.{index_len_with};
 
 use crate::element_maker::{declaration, name};
-use crate::lengths::listed_len;
 use crate::schema_table::{ElementKind, kind_of, services_namespace};
+use crate::service_lengths::listed_len;
 use std::alloc::Global;
 use std::marker::Model;
 use thiserror::Error;
@@ -42,7 +42,7 @@ pub struct IndexBuilder {
 
 impl Model for IndexBuilder {
     ghost use Rattle.std.specs.Prelude.{List};
-    ghost use Rattle.xml_tree.specs.inner.Codes.{tree_code};
+    ghost use Rattle.xml_tree.specs.inner.TreeCodes.{tree_code};
     ghost use Rattle.std.specs.Coded.{coded_list};
     ghost use Rattle.xml_tree.specs.Tree.{Tree};
 
@@ -51,7 +51,7 @@ impl Model for IndexBuilder {
     ghost coded = { coded_list tree_code };
 
     ghost use Rattle.xml_tree.specs.Tree.{child_elements_of};
-    ghost use Rattle.usage_docs.specs.inner.Indexes.{IsIndex};
+    ghost use Rattle.usage_docs.specs.inner.ServiceIndexes.{IsIndex};
 
     ghost view = { λ m. child_elements_of m.root };
 
@@ -68,12 +68,12 @@ pub(crate) fn is_service(alloc: Global, scope: &LinkedScope<'_>, child_element: 
 }
 
 /// A service of a root with these declarations, as the index lists it.
-pub(crate) fn listed_as(
+pub(crate) fn listed_service(
     alloc: Global,
     decls: &[Decl],
     child_element: &Element,
 ) -> Result<Element, NoMemory>
-    ensures ok { IfOk result (λ made. made ≡ listed_as (decls.now ∷ []) child_element.now) }
+    ensures ok { IfOk result (λ made. made ≡ listed_service (decls.now ∷ []) child_element.now) }
 {
     let scope = Scope::empty().with(decls);
     let bindings = scope.with(child_element.decls()).bindings(alloc)?;
@@ -97,7 +97,7 @@ fn push_listed(
 {
     if let Node::Elem(child_element) = node {
         if is_service(alloc, scope, child_element) {
-            made.push(Node::Elem(listed_as(alloc, decls, child_element)?))?;
+            made.push(Node::Elem(listed_service(alloc, decls, child_element)?))?;
         }
     }
     Ok(())
@@ -128,8 +128,8 @@ fn service_elements(alloc: Global, root: &Element) -> Result<Vec<Node>, NoMemory
 }
 
 // The length of an index whose services have this length.
-fn len_with(inner: usize) -> usize
-    ensures exact { result ≡ len_with inner }
+fn index_len_with(inner: usize) -> usize
+    ensures exact { result ≡ index_len_with inner }
 {
     if inner == 0 {
         EMPTY_LEN
@@ -139,7 +139,7 @@ fn len_with(inner: usize) -> usize
 }
 
 impl IndexBuilder {
-    ghost use Rattle.xml_names.specs.Memory.{OfFault};
+    ghost use Rattle.xml_names.specs.ReadErrors.{FaultSatisfies};
     ghost use Rattle.xml_tree.specs.Print.{print};
     ghost use Rattle.usage_docs.specs.Services.{service_elements, index_of, index_text, index_len};
     ghost use Rattle.usage_docs.specs.Services.{RefusesServices};
@@ -171,10 +171,11 @@ impl IndexBuilder {
         ensures err_unchanged { OnErr result (self.new ≡ self.old) }
         ensures at_most_limit { OnOk result (index_len self.new ≤ INDEX_LIMIT) }
         ensures refused_too_long { IfErr result
-            (λ error. OfFault (RefusesServices (self.old ++ service_elements root.now)) error) }
+            (λ error. FaultSatisfies
+            (RefusesServices (self.old ++ service_elements root.now)) error) }
     {
         let inner = self.inner.saturating_add(listed_len(self.alloc, root)?);
-        let len = len_with(inner);
+        let len = index_len_with(inner);
         if len > INDEX_LIMIT {
             return Err(ReadError::Fault(IndexFault::TooLarge(len)));
         }

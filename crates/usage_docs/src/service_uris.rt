@@ -2,13 +2,13 @@
 ghost use Rattle.std.specs.Prelude.{◌≡◌, ◌∷◌, [], chars, option_map};
 ghost use Rattle.std.specs.Iterator.{YieldsFirstBy, item_count};
 ghost use Rattle.usage_docs.specs.Services.{service_uri, service_uris};
-ghost use Rattle.usage_docs.specs.readers.Uris.{node_uri, uris_left};
+ghost use Rattle.usage_docs.specs.readers.ServiceUris.{node_uri, remaining_uris};
 
 use crate::attributes::value_of;
 use crate::schema_table::Key;
 use crate::service_index::is_service;
 use std::alloc::Global;
-use xml_names::{IndexedDecls, declared_in};
+use xml_names::{IndexedDecls, index_decls};
 use xml_tree::{Element, LinkedScope, Node};
 
 /// The addresses of the services that a document has, in order.
@@ -21,11 +21,11 @@ pub struct ServiceUris<'a> {
 
 /// The `uri` of each service of a document, in order.
 pub fn services(alloc: Global, root: &Element) -> ServiceUris<'_>
-    ensures addresses_in_order { uris_left result ≡ service_uris root.now }
+    ensures addresses_in_order { remaining_uris result ≡ service_uris root.now }
 {
     ServiceUris {
         alloc,
-        declared: declared_in(alloc, root.decls()),
+        declared: index_decls(alloc, root.decls()),
         nodes: root.nodes(),
     }
 }
@@ -61,9 +61,9 @@ fn node_uri<'a>(alloc: Global, root: &IndexedDecls<'_>, node: &'a Node) -> Optio
 impl<'a> Iterator for ServiceUris<'a> {
     type Item = &'a str;
 
-    ghost next_gives = { YieldsFirstBy (λ uri. chars uri.now) uris_left };
+    ghost next_gives = { YieldsFirstBy (λ uri. chars uri.now) remaining_uris };
 
-    ghost remaining = { item_count uris_left };
+    ghost remaining = { item_count remaining_uris };
 
     fn next(&mut self) -> Option<&'a str> {
         while let Some((node, others)) = self.nodes.split_first() {

@@ -5,21 +5,21 @@ ghost use Rattle.xml_names.specs.declared.limits.TheConstants.{MAX_LEVELS};
 ghost use Rattle.xml_tree.specs.Tree.{content_height, height, child_elements_of};
 ghost use Rattle.xml_tree.specs.declared.path.TheConstants.{PATH_LIMIT};
 ghost use Rattle.xml_tree.specs.declared.tree.Node.TheVariants.{Elem};
-ghost use Rattle.usage_docs.specs.UniqueKeys.{IsFirstClash, RepeatsAt};
-ghost use Rattle.usage_docs.specs.Forms.{MeetsConstraints, IsNodeFormed};
+ghost use Rattle.usage_docs.specs.UniqueKeys.{IsFirstClash, RepeatsKeyAt};
+ghost use Rattle.usage_docs.specs.ReferenceForms.{MeetsConstraints, IsFormedNode};
 ghost use Rattle.usage_docs.specs.Validation.{HasFirstFault};
-ghost use Rattle.usage_docs.specs.Validity.{IsValidDocument, ValidChild};
+ghost use Rattle.usage_docs.specs.Validity.{IsValidDocument, IsValidChild};
 ghost use Rattle.usage_docs.specs.readers.FirstFaults.{fault_of_result};
-ghost use Rattle.usage_docs.specs.readers.Siblings.{IsFirst};
+ghost use Rattle.usage_docs.specs.readers.SiblingElements.{IsFirstInOrder};
 
-use crate::attributes::attrs_pass;
-use crate::keys::Clash;
+use crate::attributes::are_attrs_allowed;
+use crate::key_repeats::Clash;
 use crate::path_trail::Trail;
 use crate::schema_table::{ElementKind, is_root, kind_of, root_kind};
 use crate::validation_result::{ValidationResult, walk_if_kind, walk_inside};
 use doc_names::Usage;
 use std::alloc::Global;
-use xml_names::declared_in;
+use xml_names::index_decls;
 use xml_tree::{Element, LinkedScope, Path};
 
 /// Why a tree isn't a document of its usage.
@@ -47,8 +47,8 @@ fn find_in_scope(
         → IsFirstClash usage root.now result.clash }
 {
     let kind = root_kind(usage);
-    let mut found = ValidationResult::nothing();
-    found.valid = is_root(usage, scope, root.name()) & attrs_pass(kind, scope, root.attrs());
+    let mut found = ValidationResult::no_fault();
+    found.valid = is_root(usage, scope, root.name()) & are_attrs_allowed(kind, scope, root.attrs());
     let path = Path::root();
     walk_inside(alloc, kind, scope, root, &Trail::at(&path), &mut found);
     found
@@ -61,7 +61,7 @@ fn find_in_root(alloc: Global, usage: Usage, root: &Element) -> ValidationResult
     ensures first_document_clash { height root.now ≤ MAX_LEVELS
         → IsFirstClash usage root.now result.clash }
 {
-    let declared = declared_in(alloc, root.decls());
+    let declared = index_decls(alloc, root.decls());
     find_in_scope(alloc, usage, &LinkedScope::empty().inside(&declared), root)
 }
 
@@ -72,14 +72,14 @@ fn find_in_child(
     scope: &LinkedScope<'_>,
     child_element: &Element,
 ) -> ValidationResult
-    ensures valid_child { IsTrue result.valid ↔ ValidChild row scope.now child_element.now }
+    ensures valid_child { IsTrue result.valid ↔ IsValidChild row scope.now child_element.now }
     ensures formed_child { IsTrue result.formed
-        ↔ IsNodeFormed row scope.now (Elem child_element.now) }
+        ↔ IsFormedNode row scope.now (Elem child_element.now) }
 {
-    let declared = declared_in(alloc, child_element.decls());
+    let declared = index_decls(alloc, child_element.decls());
     let inside = (&*scope).inside(&declared);
     let kind = kind_of(row, &inside, child_element.name());
-    let mut found = ValidationResult::nothing();
+    let mut found = ValidationResult::no_fault();
     let path = Path::root();
     walk_if_kind(
         alloc,
@@ -151,7 +151,7 @@ pub fn is_valid_child(
     scope: &LinkedScope<'_>,
     child_element: &Element,
 ) -> bool
-    ensures exact { IsTrue result ↔ ValidChild row scope.now child_element.now }
+    ensures exact { IsTrue result ↔ IsValidChild row scope.now child_element.now }
 {
     find_in_child(alloc, row, scope, child_element).valid
 }
@@ -164,7 +164,7 @@ pub fn is_formed_child(
     scope: &LinkedScope<'_>,
     child_element: &Element,
 ) -> bool
-    ensures exact { IsTrue result ↔ IsNodeFormed row scope.now (Elem child_element.now) }
+    ensures exact { IsTrue result ↔ IsFormedNode row scope.now (Elem child_element.now) }
 {
     find_in_child(alloc, row, scope, child_element).formed
 }
@@ -180,10 +180,10 @@ pub fn clash_below(
     path: &Path,
 ) -> Option<Clash>
     requires height_bounded { length path.now + content_height element.now.content ≤ PATH_LIMIT }
-    ensures first_iff { IsFirst
-        (RepeatsAt row scope.now (child_elements_of element.now)) path.now result }
+    ensures first_iff { IsFirstInOrder
+        (RepeatsKeyAt row scope.now (child_elements_of element.now)) path.now result }
 {
-    let mut found = ValidationResult::nothing();
+    let mut found = ValidationResult::no_fault();
     walk_inside(alloc, row, scope, element, &Trail::at(path), &mut found);
     found.clash
 }

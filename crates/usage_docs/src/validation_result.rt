@@ -7,29 +7,32 @@ ghost use Rattle.xml_tree.specs.Tree.{Tree, content_height, height, child_elemen
 ghost use Rattle.xml_tree.specs.Nodes.{node_height};
 ghost use Rattle.xml_tree.specs.declared.path.TheConstants.{PATH_LIMIT};
 ghost use Rattle.xml_tree.specs.declared.tree.Node.TheVariants.{Elem};
-ghost use Rattle.usage_docs.specs.declared.keys.Clash.{Clash};
+ghost use Rattle.usage_docs.specs.declared.key_repeats.Clash.{Clash};
 ghost use Rattle.usage_docs.specs.declared.schema_table.ElementKind.{ElementKind};
-ghost use Rattle.usage_docs.specs.UniqueKeys.{RepeatsAt};
-ghost use Rattle.usage_docs.specs.Forms.{AllFormed, IsNodeFormed};
+ghost use Rattle.usage_docs.specs.UniqueKeys.{RepeatsKeyAt};
+ghost use Rattle.usage_docs.specs.ReferenceForms.{AllReferencesFormed, IsFormedNode};
 ghost use Rattle.usage_docs.specs.SchemaTable.{Scope};
-ghost use Rattle.usage_docs.specs.Validity.{ValidInRow};
-ghost use Rattle.usage_docs.specs.readers.Repeats.{Enters, Holds, IsFirstRepeat, mark_by};
-ghost use Rattle.usage_docs.specs.readers.Siblings.{one_more};
-ghost use Rattle.usage_docs.specs.readers.Walks.{HoldsRow, IsNodeValid, part_after};
-ghost use Rattle.usage_docs.specs.readers.FirstFaults.{IsKnownFormed, IsFirstAfter, IsFirstSoFar};
-ghost use Rattle.usage_docs.specs.readers.FirstFaults.{PassesClash, PassesKey, RepeatsKnown};
+ghost use Rattle.usage_docs.specs.Validity.{IsValidOfKind};
+ghost use Rattle.usage_docs.specs.readers.KeyRepeats.{EntersKey, HoldsKeys, IsFirstRepeat};
+ghost use Rattle.usage_docs.specs.readers.KeyRepeats.{sibling_key_by_attrs};
+ghost use Rattle.usage_docs.specs.readers.SiblingElements.{count_with_node};
+ghost use Rattle.usage_docs.specs.readers.ContentWalks.{IsContentOfKind, IsNodeValid};
+ghost use Rattle.usage_docs.specs.readers.ContentWalks.{part_after_node};
+ghost use Rattle.usage_docs.specs.readers.FirstFaults.{IsFormedOfKind, IsFirstClashAfter};
+ghost use Rattle.usage_docs.specs.readers.FirstFaults.{IsFirstClashSoFar};
+ghost use Rattle.usage_docs.specs.readers.FirstFaults.{FindsFirstClash, AddsKey, RepeatsKeyIfKnown};
 ghost use Rattle.usage_docs.specs.readers.FirstFaults.{clash_scan};
 
-use crate::attributes::attrs_pass;
-use crate::child_scan::scanned_repeat;
-use crate::content_parts::{END, Placed, follows, place_of};
-use crate::keys::{Clash, KeyRepeat, KeyedChild, enter, first_repeat};
+use crate::attributes::are_attrs_allowed;
+use crate::child_scan::scan_for_repeat;
+use crate::content_parts::{END, Placed, find_placement, may_follow};
+use crate::key_repeats::{Clash, KeyRepeat, KeyedChild, enter_key, first_repeat};
 use crate::path_trail::Trail;
-use crate::reference_forms::is_formed;
+use crate::reference_forms::are_references_formed;
 use crate::schema_table::ElementKind;
-use crate::validity::text_passes;
+use crate::validity::is_text_allowed;
 use std::alloc::Global;
-use xml_names::{Attr, declared_in};
+use xml_names::{Attr, index_decls};
 use xml_tree::{Element, LinkedScope, Node};
 
 /// The result of a walk over a tree.
@@ -45,7 +48,7 @@ pub(crate) struct ValidationResult {
 
 impl ValidationResult {
     /// No fault.
-    pub(crate) fn nothing() -> ValidationResult
+    pub(crate) fn no_fault() -> ValidationResult
         ensures starts_valid { result.valid ≡ true }
         ensures starts_formed { result.formed ≡ true }
         ensures starts_without_clash { result.clash ≡ None }
@@ -84,11 +87,12 @@ impl<'a> ChildScan<'a> {
             ≡ (if clashes then self.old.clear else suc self.old.clear) }
         ensures clear_at_most { self.new.clear ≤ self.new.count }
         ensures enters_key { self.new.holds_all ≡ true → (self.old.holds_all ≡ true)
-            × Enters (mark_by child.kind attrs.now) self.old.count self.old.keys.items
+            × EntersKey (sibling_key_by_attrs child.kind attrs.now) self.old.count
+            self.old.keys.items
             self.new.keys.items }
     {
         self.holds_all = self.holds_all
-            && enter(&mut self.keys, child.kind, attrs, self.count).is_ok();
+            && enter_key(&mut self.keys, child.kind, attrs, self.count).is_ok();
         self.part = child.part;
         self.count += 1;
         self.clear += usize::from(!clashes);
@@ -105,14 +109,14 @@ fn repeat_among(
     passed: ChildScan<'_>,
 ) -> Option<KeyRepeat>
     ensures is_first_repeat { (passed.entry.holds_all ≡ true
-        → Holds row scope.now (child_elements_of element.now)
+        → HoldsKeys row scope.now (child_elements_of element.now)
         (length (child_elements_of element.now)) passed.entry.keys.items)
         → IsFirstRepeat row scope.now (child_elements_of element.now) result }
 {
     if passed.holds_all {
         return first_repeat(passed.keys);
     }
-    scanned_repeat(alloc, row, scope, element)
+    scan_for_repeat(alloc, row, scope, element)
 }
 
 // Records the first child that has the kind and the key of an earlier one, if no clash comes
@@ -128,10 +132,12 @@ fn note_repeat(
     ensures is_first_repeat { (row : ElementKind) (c : Scope) (e : Tree) (before : Option Clash)
         → IsFirstRepeat row c (child_elements_of e) repeat
         → length trail.now + content_height e.content ≤ PATH_LIMIT
-        → IsFirstSoFar (record { kind = row; scope = c; path = trail.now }) (child_elements_of e)
+        → IsFirstClashSoFar (record { kind = row; scope = c; path = trail.now })
+        (child_elements_of e)
         before
         (record { count = length (child_elements_of e); clear = clear; clash = found.old.clash })
-        → IsFirstAfter before (RepeatsAt row c (child_elements_of e)) trail.now found.new.clash }
+        → IsFirstClashAfter before (RepeatsKeyAt row c (child_elements_of e)) trail.now
+        found.new.clash }
 {
     let Some(repeat) = repeat else {
         return;
@@ -161,12 +167,12 @@ pub(crate) fn walk_inside(
     found: &mut ValidationResult,
 )
     ensures valid_inside { IsTrue found.new.valid
-        ↔ (IsTrue found.old.valid × HoldsRow row scope.now element.now.content) }
+        ↔ (IsTrue found.old.valid × IsContentOfKind row scope.now element.now.content) }
     ensures formed_inside { IsTrue found.new.formed
-        ↔ (IsTrue found.old.formed × AllFormed row scope.now element.now.content) }
+        ↔ (IsTrue found.old.formed × AllReferencesFormed row scope.now element.now.content) }
     ensures first_clash_inside { length trail.now + content_height element.now.content ≤ PATH_LIMIT
-        → IsFirstAfter found.old.clash
-        (RepeatsAt row scope.now (child_elements_of element.now)) trail.now found.new.clash }
+        → IsFirstClashAfter found.old.clash
+        (RepeatsKeyAt row scope.now (child_elements_of element.now)) trail.now found.new.clash }
 {
     let nodes = element.nodes();
     let mut passed = ChildScan {
@@ -179,7 +185,7 @@ pub(crate) fn walk_inside(
     for node in nodes {
         walk_node(alloc, row, scope, node, trail, &mut passed, found);
     }
-    found.valid &= follows(row, passed.part, END);
+    found.valid &= may_follow(row, passed.part, END);
     let clear = passed.clear;
     let repeat = repeat_among(alloc, row, scope, element, passed);
     note_repeat(repeat, clear, trail, found);
@@ -201,13 +207,13 @@ fn walk_node<'a>(
     ensures valid_with_node { IsTrue found.new.valid
         ↔ (IsTrue found.old.valid × IsNodeValid row scope.now passed.old.part node.now) }
     ensures formed_with_node { IsTrue found.new.formed
-        ↔ (IsTrue found.old.formed × IsNodeFormed row scope.now node.now) }
-    ensures next_part { passed.new.part ≡ part_after row scope.now passed.old.part node.now }
-    ensures counts_node { passed.new.count ≡ one_more node.now passed.old.count }
+        ↔ (IsTrue found.old.formed × IsFormedNode row scope.now node.now) }
+    ensures next_part { passed.new.part ≡ part_after_node row scope.now passed.old.part node.now }
+    ensures counts_node { passed.new.count ≡ count_with_node node.now passed.old.count }
     ensures clear_at_most { passed.new.clear ≤ passed.new.count }
-    ensures enters_key { PassesKey row scope.now node.now passed.old passed.new }
+    ensures enters_key { AddsKey row scope.now node.now passed.old passed.new }
     ensures clash_in_node { length trail.now + node_height node.now ≤ PATH_LIMIT
-        → PassesClash (record { kind = row; scope = scope.now; path = trail.now }) node.now
+        → FindsFirstClash (record { kind = row; scope = scope.now; path = trail.now }) node.now
         (clash_scan passed.old found.old.clash) (clash_scan passed.new found.new.clash) }
 {
     match node {
@@ -221,7 +227,7 @@ fn walk_node<'a>(
             found,
         ),
         Node::Chars(text) => {
-            found.valid &= text_passes(row, text.as_str());
+            found.valid &= is_text_allowed(row, text.as_str());
         }
         Node::Comment(_) => {}
     }
@@ -244,21 +250,21 @@ fn walk_child<'a>(
         ↔ (IsTrue found.old.valid
         × IsNodeValid row scope.now passed.old.part (Elem child_element.now)) }
     ensures formed_with_child { IsTrue found.new.formed
-        ↔ (IsTrue found.old.formed × IsNodeFormed row scope.now (Elem child_element.now)) }
+        ↔ (IsTrue found.old.formed × IsFormedNode row scope.now (Elem child_element.now)) }
     ensures next_part { passed.new.part
-        ≡ part_after row scope.now passed.old.part (Elem child_element.now) }
+        ≡ part_after_node row scope.now passed.old.part (Elem child_element.now) }
     ensures counts_child { passed.new.count ≡ suc passed.old.count }
     ensures clear_at_most { passed.new.clear ≤ passed.new.count }
-    ensures enters_key { PassesKey row scope.now (Elem child_element.now) passed.old passed.new }
+    ensures enters_key { AddsKey row scope.now (Elem child_element.now) passed.old passed.new }
     ensures clash_in_child { length trail.now + height child_element.now ≤ PATH_LIMIT
-        → PassesClash (record { kind = row; scope = scope.now; path = trail.now })
+        → FindsFirstClash (record { kind = row; scope = scope.now; path = trail.now })
         (Elem child_element.now)
         (clash_scan passed.old found.old.clash) (clash_scan passed.new found.new.clash) }
 {
-    let declared = declared_in(alloc, child_element.decls());
+    let declared = index_decls(alloc, child_element.decls());
     let inside = (&*scope).inside(&declared);
-    let child = place_of(row, &inside, child_element.name());
-    found.valid &= follows(row, passed.part, child.part);
+    let child = find_placement(row, &inside, child_element.name());
+    found.valid &= may_follow(row, passed.part, child.part);
     let here = trail.child(passed.count);
     walk_if_kind(alloc, child.kind, &inside, child_element, &here, found);
     passed.add(child, child_element.attrs(), found.clash.is_some());
@@ -277,18 +283,18 @@ pub(crate) fn walk_if_kind(
 )
     ensures valid_with_element { IsTrue found.new.valid
         ↔ (IsTrue found.old.valid
-        × ForSome kind (λ known. ValidInRow known scope.now element.now)) }
+        × ForSome kind (λ known. IsValidOfKind known scope.now element.now)) }
     ensures formed_with_element { IsTrue found.new.formed
         ↔ (IsTrue found.old.formed
-        × ForSome kind (λ known. IsKnownFormed known scope.now element.now)) }
+        × ForSome kind (λ known. IsFormedOfKind known scope.now element.now)) }
     ensures first_clash_below { length trail.now + content_height element.now.content ≤ PATH_LIMIT
-        → IsFirstAfter found.old.clash
-        (RepeatsKnown kind scope.now element.now) trail.now found.new.clash }
+        → IsFirstClashAfter found.old.clash
+        (RepeatsKeyIfKnown kind scope.now element.now) trail.now found.new.clash }
 {
     let Some(known) = kind else {
         return;
     };
-    found.valid &= attrs_pass(known, scope, element.attrs());
-    found.formed &= is_formed(known, element);
+    found.valid &= are_attrs_allowed(known, scope, element.attrs());
+    found.formed &= are_references_formed(known, element);
     walk_inside(alloc, known, scope, element, trail, found);
 }

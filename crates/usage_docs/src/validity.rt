@@ -3,7 +3,7 @@ ghost use Rattle.std.specs.Prelude.{◌≡◌, chars};
 ghost use Rattle.std.specs.List.{list_all};
 ghost use Rattle.xml_names.specs.Characters.{is_space};
 ghost use Rattle.usage_docs.specs.SchemaTable.{content_model_of};
-ghost use Rattle.usage_docs.specs.Validity.{is_text_model, text_passes};
+ghost use Rattle.usage_docs.specs.Validity.{is_text_model, is_text_allowed};
 
 use crate::schema_table::ElementKind;
 use xml_names::is_space;
@@ -27,9 +27,9 @@ fn is_blank(text: &str) -> bool
 }
 
 /// Whether a text is allowed in an element of this kind. Does not allocate.
-#[tactic(auto, unfolding(crate::specs::Validity::text_passes))]
-pub(crate) fn text_passes(row: ElementKind, text: &str) -> bool
-    ensures exact { result ≡ text_passes row (chars text.now) }
+#[tactic(auto, unfolding(crate::specs::Validity::is_text_allowed))]
+pub(crate) fn is_text_allowed(row: ElementKind, text: &str) -> bool
+    ensures exact { result ≡ is_text_allowed row (chars text.now) }
 {
     takes_text(row) || is_blank(text)
 }

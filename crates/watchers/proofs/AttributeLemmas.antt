@@ -6,7 +6,7 @@ use Rattle.std.specs.Option.{option_and_then}
 use Rattle.xml_tree.specs.Edits.{attr_at}
 use Rattle.xml_tree.specs.Tree.{Tree, at}
 use Rattle.xml_names.specs.declared.names.Name.{Name}
-use Rattle.xml_names.specs.Attributes.{is_written_so as is_named}
+use Rattle.xml_names.specs.Attributes.{has_qname as is_named}
 
 any_found : {A : Type 0} (test : A → Bool) (xs : List A) → list_any test xs ≡ is_some (find test xs)
 any_found test [] = refl

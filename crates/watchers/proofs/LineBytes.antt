@@ -9,7 +9,7 @@ use Rattle.std.specs.Fmt.{decimal}
 use Rattle.xml_names.specs.Markup.{print_name}
 use Rattle.xml_names.specs.declared.names.Name.{Name}
 use Rattle.xml_tree.specs.PathTexts.{path_text, steps_text}
-use Rattle.watchers.specs.Lines.{place_bytes}
+use Rattle.watchers.specs.AuditLines.{place_bytes}
 
 -- a name with a prefix
 prefixed_name : (n : Name) → n.prefix ≢ [] → encode_utf8_all (print_name n) ≡ encode_utf8_all n.prefix ++ 58 ∷ encode_utf8_all n.local

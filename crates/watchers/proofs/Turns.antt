@@ -3,7 +3,7 @@ use Rattle.std.proofs.Common.{◌≡◌, ℕ, ◌+◌, ◌<◌, ◌≤◌, List,
 use Rattle.std.proofs.lemmas.Grind.{common_steps}
 use Rattle.edit_ops.specs.declared.edit.Edit.{Edit}
 use Rattle.watchers.specs.declared.watcher.Told.{Told}
-use Rattle.watchers.specs.Notifications.{HasKept, HasLeft, AreNotified}
+use Rattle.watchers.specs.Notifications.{HasKeptChange, HasLeftAt, AreNotified}
 use Rattle.watchers.specs.inner.Notifications.{AreNotifiedUpTo}
 
 -- ---- the item at an index, and the lists before and after it
@@ -37,10 +37,10 @@ module _ {B : Type 0} (told_list : B → Option (List Edit)) (faults : B → ℕ
   SoFar = AreNotifiedUpTo told_list faults never_refuses answers written edit
 
   abbrev Keeps : B → B → Type 0
-  Keeps = HasKept told_list faults never_refuses answers written edit
+  Keeps = HasKeptChange told_list faults never_refuses answers written edit
 
   abbrev Leaves : B → B → Type 0
-  Leaves = HasLeft told_list faults never_refuses answers written edit
+  Leaves = HasLeftAt told_list faults never_refuses answers written edit
 
   pub one_kept : (old now : List B) (i left : ℕ) (d b : B) → i < length now → d ≡ get_or now i d → Keeps d b → SoFar old now i left → SoFar old (set now i b) (i + 1) left
   one_kept old now i left d b lt is_at kept so_far = record {

@@ -1,8 +1,8 @@
-pub mod Answers
+pub mod AuditLines
 pub mod Audits
-pub mod Lines
 pub mod MirrorContents
 pub mod Mirrors
 pub mod Notifications
+pub mod WatcherResults
 pub mod WrittenLines
 pub mod inner

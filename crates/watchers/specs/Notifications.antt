@@ -2,7 +2,7 @@
 -- the project's own.
 use Rattle.std.specs.Prelude.{◌≡◌, ◌≢◌, ℕ, ◌+◌, ◌≤◌, List, [], ◌∷◌, ◌++◌, Option, ◌⊎◌, option_map}
 use Rattle.edit_ops.specs.declared.edit.Edit.{Edit}
-use Rattle.watchers.specs.WrittenLines.{Wrote, with_lines}
+use Rattle.watchers.specs.WrittenLines.{WroteLineIfSeen, with_lines}
 use Rattle.watchers.specs.declared.watcher.Told.{Told}
 use Rattle.watchers.specs.declared.watcher.Told.TheVariants.{Kept}
 
@@ -18,19 +18,19 @@ module _ {B : Type 0} (told_list : B → Option (List Edit)) (faults : B → ℕ
     (never_refuses : B → Type 0) (answers : B → Edit → Told → Type 0)
     (written : B → Option (List ℕ)) where
   -- a watcher that was notified of a change and kept it
-  pub record HasKept (edit : Edit) (old new : B) : Type 0 where
+  pub record HasKeptChange (edit : Edit) (old new : B) : Type 0 where
     pub answered : answers old edit Kept
     pub told : told_list new ≡ with_edit (told_list old) edit
-    pub wrote : Wrote (written old) edit Kept (written new)
+    pub wrote : WroteLineIfSeen (written old) edit Kept (written new)
     pub counts : faults old ≤ faults new
     pub never : never_refuses old → never_refuses new
 
   -- a watcher that was notified of a change and returned another result, and its last state
-  pub record HasLeft (edit : Edit) (old last : B) : Type 0 where
+  pub record HasLeftAt (edit : Edit) (old last : B) : Type 0 where
     pub answer : Told
     pub other : answer ≢ Kept
     pub answered : answers old edit answer
-    pub wrote : Wrote (written old) edit answer (written last)
+    pub wrote : WroteLineIfSeen (written old) edit answer (written last)
     pub refuses : ¬ (never_refuses old)
 
   -- Each of the watchers was notified of the change, in order; those that kept it stay, in order,
@@ -39,12 +39,12 @@ module _ {B : Type 0} (told_list : B → Option (List Edit)) (faults : B → ℕ
   AreNotified edit [] new left = (new ≡ []) × (left ≡ 0)
   AreNotified edit (b ∷ bs) new left =
       ((b' : B) × (bs' : List B)
-      × (new ≡ b' ∷ bs') × HasKept edit b b' × AreNotified edit bs bs' left)
-      ⊎ ((last : B) × (k : ℕ) × (left ≡ k + 1) × HasLeft edit b last × AreNotified edit bs new k)
+      × (new ≡ b' ∷ bs') × HasKeptChange edit b b' × AreNotified edit bs bs' left)
+      ⊎ ((last : B) × (k : ℕ) × (left ≡ k + 1) × HasLeftAt edit b last × AreNotified edit bs new k)
 
   -- A watcher that was notified of these changes and kept each of them: it wrote their lines, in
   -- order, and nothing else.
-  pub record HasKeptAll (edits : List Edit) (old new : B) : Type 0 where
+  pub record HasKeptAllChanges (edits : List Edit) (old new : B) : Type 0 where
     pub told : told_list new ≡ with_edits (told_list old) edits
     pub wrote : written new ≡ with_lines (written old) edits
     pub counts : faults old ≤ faults new
@@ -53,20 +53,21 @@ module _ {B : Type 0} (told_list : B → Option (List Edit)) (faults : B → ℕ
   -- A watcher that was notified of the first of these changes, kept each of them, and returned
   -- another result for the next one: of this it wrote what its result says, and it was notified of
   -- no further one.
-  pub record HasLeftAmong (edits : List Edit) (old : B) : Type 0 where
+  pub record HasLeftDuring (edits : List Edit) (old : B) : Type 0 where
     pub first : List Edit
     pub edit : Edit
     pub later : List Edit
     pub in_order : edits ≡ first ++ edit ∷ later
     pub before : B
     pub last : B
-    pub kept : HasKeptAll first old before
-    pub left : HasLeft edit before last
+    pub kept : HasKeptAllChanges first old before
+    pub left : HasLeftAt edit before last
 
   -- After such changes some of the watchers are in the list, in order, each of which kept all of
   -- them; each of the others left at one of them.
-  abbrev pub AreKept : List Edit → List B → List B → Type 0
-  AreKept edits [] new = new ≡ []
-  AreKept edits (b ∷ bs) new =
-      ((b' : B) × (bs' : List B) × (new ≡ b' ∷ bs') × HasKeptAll edits b b' × AreKept edits bs bs')
-      ⊎ (HasLeftAmong edits b × AreKept edits bs new)
+  abbrev pub RemainOrLeave : List Edit → List B → List B → Type 0
+  RemainOrLeave edits [] new = new ≡ []
+  RemainOrLeave edits (b ∷ bs) new =
+      ((b' : B) × (bs' : List B) × (new ≡ b' ∷ bs') × HasKeptAllChanges edits b b'
+      × RemainOrLeave edits bs bs')
+      ⊎ (HasLeftDuring edits b × RemainOrLeave edits bs new)

@@ -1,3 +1,3 @@
 -- Definitions for private functions and proofs. No clause of a public call needs them.
 pub mod Notifications
-pub mod Rounds
+pub mod RepeatedNotifications

@@ -1,8 +1,8 @@
 //! A watcher that writes a line about each change.
 ghost use Rattle.std.specs.Prelude.{◌≡◌, ⊤, None, Some};
-ghost use Rattle.watchers.specs.Audits.{Audits};
+ghost use Rattle.watchers.specs.Audits.{WritesAuditLine};
 
-use crate::line::line_of;
+use crate::line::audit_line;
 use crate::watcher::{Told, Watcher};
 use doc_names::DocId;
 use edit_ops::EditNote;
@@ -49,10 +49,10 @@ impl<S: Sink + Drop> Watcher for Audit<S> {
     ghost holds = { λ _ _. None };
 
     fn told(&mut self, doc: &DocId, note: &EditNote) -> Told
-        ensures audits_change { Audits (S.state self.old.sink)
+        ensures audits_change { WritesAuditLine (S.state self.old.sink)
             (record { doc = doc.now; note = note.now }) result (S.state self.new.sink) }
     {
-        let line = match line_of(self.alloc, doc, note) {
+        let line = match audit_line(self.alloc, doc, note) {
             Ok(line) => line,
             Err(_) => return Told::NoMemory,
         };

@@ -1,10 +1,10 @@
 //! Whether a change fits a tree.
 ghost use Rattle.std.specs.Prelude.{◌≡◌, ◌↔◌, ◌≤◌, IsSome, IsSomeAnd, IsTrue, length};
-ghost use Rattle.xml_names.specs.Attributes.{is_written_so};
+ghost use Rattle.xml_names.specs.Attributes.{has_qname};
 ghost use Rattle.std.specs.List.{list_any};
 ghost use Rattle.xml_tree.specs.Edits.{attr_at};
 ghost use Rattle.xml_tree.specs.Tree.{at, child_elements_of};
-ghost use Rattle.edit_ops.specs.Changes.{Fits};
+ghost use Rattle.edit_ops.specs.Changes.{FitsTree};
 
 use edit_ops::Change;
 use xml_names::{Attr, Name};
@@ -16,7 +16,7 @@ fn has_element(root: &Element, path: &Path) -> bool
     element_at(root, path).is_some()
 }
 
-fn has_gap(root: &Element, parent: &Path, gap: usize) -> bool
+fn has_insertion_point(root: &Element, parent: &Path, gap: usize) -> bool
     ensures exact { IsTrue result
         ↔ IsSomeAnd (at parent.now root.now) (λ element. gap ≤ length (child_elements_of element)) }
 {
@@ -26,8 +26,8 @@ fn has_gap(root: &Element, parent: &Path, gap: usize) -> bool
     }
 }
 
-fn names_one(attrs: &[Attr], name: &Name) -> bool
-    ensures exact { result ≡ list_any (is_written_so name.now) attrs.now }
+fn has_attr_named(attrs: &[Attr], name: &Name) -> bool
+    ensures exact { result ≡ list_any (has_qname name.now) attrs.now }
 {
     attrs.iter().any(|attr| attr.name.same(name))
 }
@@ -36,19 +36,19 @@ fn has_attr(root: &Element, path: &Path, name: &Name) -> bool
     ensures exact { IsTrue result ↔ IsSome (attr_at path.now name.now root.now) }
 {
     match element_at(root, path) {
-        Some(element) => names_one(element.attrs(), name),
+        Some(element) => has_attr_named(element.attrs(), name),
         None => false,
     }
 }
 
 /// Whether the change fits the tree: its place, insertion point and removed attribute exist, and
 /// the root isn't to be removed.
-pub(crate) fn fits(root: &Element, change: &Change) -> bool
-    ensures exact { IsTrue result ↔ Fits root.now change.now }
+pub(crate) fn fits_tree(root: &Element, change: &Change) -> bool
+    ensures exact { IsTrue result ↔ FitsTree root.now change.now }
 {
     match change {
         Change::CreateDocument { root: _ } | Change::RemoveDocument => false,
-        Change::Insert { parent, gap, .. } => has_gap(root, parent, *gap),
+        Change::Insert { parent, gap, .. } => has_insertion_point(root, parent, *gap),
         Change::Replace { at, .. } => has_element(root, at),
         Change::Remove { at } => !at.numbers().is_empty() && has_element(root, at),
         Change::SetAttr { at, .. } => has_element(root, at),

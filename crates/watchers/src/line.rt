@@ -2,7 +2,8 @@
 ghost use Rattle.std.specs.Prelude.{◌≡◌, ◌++◌, ◌∷◌, [], IfOk, OnOk, codes, encode_utf8_all};
 ghost use Rattle.std.specs.Prelude.{string_bytes};
 ghost use Rattle.xml_names.specs.Markup.{print_name};
-ghost use Rattle.watchers.specs.Lines.{attr_bytes, change_bytes, line_bytes, place_bytes};
+ghost use Rattle.watchers.specs.AuditLines.{attr_bytes, change_bytes, audit_line_bytes};
+ghost use Rattle.watchers.specs.AuditLines.{place_bytes};
 
 use doc_names::{DocId, print_doc_id};
 use edit_ops::{Change, EditNote};
@@ -86,9 +87,9 @@ fn push_change(alloc: Global, line: &mut String, change: &Change) -> Result<(), 
 
 /// The line about a change: its number, the document's printed id, a word, and for all changes but
 /// the creation and the removal of a document the place of the change as a selector.
-pub(crate) fn line_of(alloc: Global, doc: &DocId, note: &EditNote) -> Result<String, AllocError>
+pub(crate) fn audit_line(alloc: Global, doc: &DocId, note: &EditNote) -> Result<String, AllocError>
     ensures ok { IfOk result
-        (λ line. string_bytes line ≡ line_bytes (record { doc = doc.now; note = note.now })) }
+        (λ line. string_bytes line ≡ audit_line_bytes (record { doc = doc.now; note = note.now })) }
 {
     let id = print_doc_id(alloc, doc)?;
     let mut line = format!(in alloc; "{} ", note.next())?;

@@ -1,11 +1,12 @@
 //! A watcher that keeps every document as it is now.
 ghost use Rattle.std.specs.Prelude.{◌≡◌, [], None, Some, IfOk, OnErr, OnOk, if◌then◌else◌};
 ghost use Rattle.std.specs.Option.{option_map};
-ghost use Rattle.watchers.specs.Answers.{NeverFails};
-ghost use Rattle.watchers.specs.Mirrors.{HoldsAfter, HoldsEdited, HoldsLow, HoldsSame, Mirrors};
-ghost use Rattle.watchers.specs.Mirrors.{OthersStay, stored_in, stored_of};
+ghost use Rattle.watchers.specs.WatcherResults.{IsNotFailure};
+ghost use Rattle.watchers.specs.Mirrors.{HoldsAfterChange, HoldsEditedTree, HoldsIfWithinLevels};
+ghost use Rattle.watchers.specs.Mirrors.{AllAreUnchanged, MirrorsChange};
+ghost use Rattle.watchers.specs.Mirrors.{OthersAreUnchanged, find_mirrored, mirrored_document};
 
-use crate::change_fits::fits;
+use crate::change_fits::fits_tree;
 use crate::mirror_entry::MirrorEntry;
 use crate::watcher::{Told, Watcher};
 use doc_names::DocId;
@@ -38,18 +39,18 @@ impl Model for Mirror {
 }
 
 // Makes a change of a kept tree, and returns whether it is still kept.
-fn follow(
+fn update_mirrored(
     alloc: Global,
     held: &mut MirrorEntry,
     change: &Change,
     number: u64,
 ) -> Result<bool, AllocError>
     ensures holds_edited { IfOk result
-        (λ stays. HoldsEdited change.now number (Some (stored_of held.old))
-        (if stays then Some (stored_of held.new) else None)) }
+        (λ stays. HoldsEditedTree change.now number (Some (mirrored_document held.old))
+        (if stays then Some (mirrored_document held.new) else None)) }
     ensures err_unchanged { OnErr result (held.new ≡ held.old) }
 {
-    if !fits(&held.tree, change) {
+    if !fits_tree(&held.tree, change) {
         return Ok(false);
     }
     apply_change(alloc, &mut held.tree, change)?;
@@ -71,28 +72,34 @@ impl Mirror {
     /// The kept tree of a document, and the number of the change that made it. Does not allocate.
     pub fn get(&self, doc: &DocId) -> Option<(&Element, u64)>
         ensures exact { option_map (λ held. (held.0.now, held.1)) result
-            ≡ stored_in self.now doc.now }
+            ≡ find_mirrored self.now doc.now }
     {
         let held = self.held.get(doc)?;
         Some((&held.tree, held.number))
     }
 
     // Removes a document.
-    fn forget(&mut self, doc: &DocId)
-        ensures document_is_forgotten { stored_in self.new doc.now ≡ None }
-        ensures other_documents_stay { OthersStay self.old doc.now self.new }
+    fn remove_document(&mut self, doc: &DocId)
+        ensures document_is_forgotten { find_mirrored self.new doc.now ≡ None }
+        ensures other_documents_stay { OthersAreUnchanged self.old doc.now self.new }
     {
         self.held.swap_remove(doc);
     }
 
     // Keeps a new document; not if its tree is too deep.
-    fn begin(&mut self, doc: &DocId, root: &Element, number: u64) -> Result<(), AllocError>
-        ensures holds_new { OnOk result (HoldsLow root.now number (stored_in self.new doc.now)) }
-        ensures other_documents_stay { OthersStay self.old doc.now self.new }
-        ensures err_unchanged { OnErr result (HoldsSame self.old self.new) }
+    fn insert_document(
+        &mut self,
+        doc: &DocId,
+        root: &Element,
+        number: u64,
+    ) -> Result<(), AllocError>
+        ensures holds_new { OnOk result
+            (HoldsIfWithinLevels root.now number (find_mirrored self.new doc.now)) }
+        ensures other_documents_stay { OthersAreUnchanged self.old doc.now self.new }
+        ensures err_unchanged { OnErr result (AllAreUnchanged self.old self.new) }
     {
         if depth(root) > MAX_LEVELS {
-            self.forget(doc);
+            self.remove_document(doc);
             return Ok(());
         }
         let tree = copy_tree(self.alloc, root)?;
@@ -103,47 +110,52 @@ impl Mirror {
 
     // Makes a change of a kept document; the document is removed where the change doesn't fit or
     // makes the tree too deep.
-    fn go_on(&mut self, doc: &DocId, change: &Change, number: u64) -> Result<(), AllocError>
+    fn edit_document(&mut self, doc: &DocId, change: &Change, number: u64) -> Result<(), AllocError>
         ensures holds_edited { OnOk result
-            (HoldsEdited change.now number (stored_in self.old doc.now)
-            (stored_in self.new doc.now)) }
-        ensures other_documents_stay { OthersStay self.old doc.now self.new }
-        ensures err_unchanged { OnErr result (HoldsSame self.old self.new) }
+            (HoldsEditedTree change.now number (find_mirrored self.old doc.now)
+            (find_mirrored self.new doc.now)) }
+        ensures other_documents_stay { OthersAreUnchanged self.old doc.now self.new }
+        ensures err_unchanged { OnErr result (AllAreUnchanged self.old self.new) }
     {
         let alloc = self.alloc;
         let Some(held) = self.held.get_mut(doc) else {
             return Ok(());
         };
-        let stays = follow(alloc, held, change, number)?;
+        let stays = update_mirrored(alloc, held, change, number)?;
         if stays {
             return Ok(());
         }
-        self.forget(doc);
+        self.remove_document(doc);
         Ok(())
     }
 
     // Keeps what a change leaves of a document.
-    fn hold_after(&mut self, doc: &DocId, change: &Change, number: u64) -> Result<(), AllocError>
+    fn apply_to_document(
+        &mut self,
+        doc: &DocId,
+        change: &Change,
+        number: u64,
+    ) -> Result<(), AllocError>
         ensures holds_after { OnOk result
-            (HoldsAfter change.now number (stored_in self.old doc.now)
-            (stored_in self.new doc.now)) }
-        ensures other_documents_stay { OthersStay self.old doc.now self.new }
-        ensures err_unchanged { OnErr result (HoldsSame self.old self.new) }
+            (HoldsAfterChange change.now number (find_mirrored self.old doc.now)
+            (find_mirrored self.new doc.now)) }
+        ensures other_documents_stay { OthersAreUnchanged self.old doc.now self.new }
+        ensures err_unchanged { OnErr result (AllAreUnchanged self.old self.new) }
     {
         match change {
-            Change::CreateDocument { root } => self.begin(doc, root, number),
-            change => self.go_on(doc, change, number),
+            Change::CreateDocument { root } => self.insert_document(doc, root, number),
+            change => self.edit_document(doc, change, number),
         }
     }
 
-    fn mirror(&mut self, doc: &DocId, note: &EditNote) -> Result<(), AllocError>
+    fn record_change(&mut self, doc: &DocId, note: &EditNote) -> Result<(), AllocError>
         ensures holds_after { OnOk result
-            (HoldsAfter note.now.change note.now.next (stored_in self.old doc.now)
-            (stored_in self.new doc.now)) }
-        ensures other_documents_stay { OthersStay self.old doc.now self.new }
-        ensures err_unchanged { OnErr result (HoldsSame self.old self.new) }
+            (HoldsAfterChange note.now.change note.now.next (find_mirrored self.old doc.now)
+            (find_mirrored self.new doc.now)) }
+        ensures other_documents_stay { OthersAreUnchanged self.old doc.now self.new }
+        ensures err_unchanged { OnErr result (AllAreUnchanged self.old self.new) }
     {
-        self.hold_after(doc, note.change(), note.next())
+        self.apply_to_document(doc, note.change(), note.next())
     }
 }
 
@@ -154,18 +166,18 @@ impl Watcher for Mirror {
 
     ghost never_refuses = { λ _. ⊥ };
 
-    ghost answers = { λ _ _ told. NeverFails told };
+    ghost answers = { λ _ _ told. IsNotFailure told };
 
     ghost written = { λ _. None };
 
-    ghost holds = { stored_in };
+    ghost holds = { find_mirrored };
 
     fn told(&mut self, doc: &DocId, note: &EditNote) -> Told
-        ensures never_fails { NeverFails result }
-        ensures mirrors_edit { Mirrors self.old
+        ensures never_fails { IsNotFailure result }
+        ensures mirrors_edit { MirrorsChange self.old
             (record { doc = doc.now; note = note.now }) result self.new }
     {
-        match self.mirror(doc, note) {
+        match self.record_change(doc, note) {
             Ok(()) => Told::Kept,
             Err(AllocError) => Told::NoMemory,
         }

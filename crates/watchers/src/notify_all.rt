@@ -1,6 +1,7 @@
 //! Notifying watchers of changes.
 ghost use Rattle.std.specs.Prelude.{◌≡◌, IsTrue, false, [], ◌∷◌};
-ghost use Rattle.watchers.specs.Notifications.{AreKept, AreNotified, HasKept, HasLeft};
+ghost use Rattle.watchers.specs.Notifications.{RemainOrLeave, AreNotified, HasKeptChange};
+ghost use Rattle.watchers.specs.Notifications.{HasLeftAt};
 
 use crate::watcher::{Told, Watcher};
 use edit_ops::Edit;
@@ -8,9 +9,11 @@ use edit_ops::Edit;
 // Notifies a watcher of a change, and returns whether it kept it.
 fn notify(watcher: &mut Box<dyn Watcher>, edit: &Edit) -> bool
     ensures true_has_kept { IsTrue result
-        → HasKept told_list faults never_refuses answers written edit.now watcher.old watcher.new }
+        → HasKeptChange told_list faults never_refuses answers written edit.now watcher.old
+        watcher.new }
     ensures false_has_left { result ≡ false
-        → HasLeft told_list faults never_refuses answers written edit.now watcher.old watcher.new }
+        → HasLeftAt told_list faults never_refuses answers written edit.now watcher.old
+        watcher.new }
 {
     watcher.told(&edit.doc, &edit.note) == Told::Kept
 }
@@ -21,7 +24,7 @@ fn notify(watcher: &mut Box<dyn Watcher>, edit: &Edit) -> bool
 pub fn tell_all(watchers: &mut Vec<Box<dyn Watcher>>, edit: &Edit) -> usize
     ensures notifies_edit { AreNotified told_list faults never_refuses answers written edit.now
         watchers.old.items watchers.new.items result }
-    ensures kept_by_watchers { AreKept told_list faults never_refuses answers written
+    ensures kept_by_watchers { RemainOrLeave told_list faults never_refuses answers written
         (edit.now ∷ []) watchers.old.items watchers.new.items }
 {
     let mut kept = 0;

@@ -1,6 +1,6 @@
 //! A watcher that keeps a copy of each change.
 ghost use Rattle.std.specs.Prelude.{◌≡◌, [], ◌∷◌, ◌++◌, ◌≢◌, OnOk, OnErr, Some, None};
-ghost use Rattle.watchers.specs.Answers.{NeverFails};
+ghost use Rattle.watchers.specs.WatcherResults.{IsNotFailure};
 
 use crate::watcher::{Told, Watcher};
 use doc_names::DocId;
@@ -66,7 +66,7 @@ impl Watcher for Recorder {
 
     ghost never_refuses = { λ _. ⊥ };
 
-    ghost answers = { λ _ _ told. NeverFails told };
+    ghost answers = { λ _ _ told. IsNotFailure told };
 
     ghost written = { λ _. None };
 
@@ -77,7 +77,7 @@ impl Watcher for Recorder {
             → self.new ≡ self.old ++ record { doc = doc.now; note = note.now } ∷ [] }
         ensures unkept_no_memory { result ≢ Told.Kept → (result ≡ Told.NoMemory)
             × (self.new ≡ self.old) }
-        ensures never_fails { NeverFails result }
+        ensures never_fails { IsNotFailure result }
     {
         match self.keep(doc, note) {
             Ok(()) => Told::Kept,

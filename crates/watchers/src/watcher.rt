@@ -1,11 +1,11 @@
 //! The trait of watchers.
 ghost use Rattle.std.specs.Prelude.{◌≡◌, ℕ, ◌≤◌, List, Option};
 ghost use Rattle.std.specs.Option.{option_map};
-ghost use Rattle.xcap_io.specs.Causes.{CountRises};
+ghost use Rattle.xcap_io.specs.StreamStates.{CountRises};
 ghost use Rattle.doc_names.specs.declared.doc_id.DocId.{DocId as TheDocId};
 ghost use Rattle.watchers.specs.MirrorContents.{MirroredDocument};
 ghost use Rattle.watchers.specs.Notifications.{with_edit};
-ghost use Rattle.watchers.specs.WrittenLines.{Wrote};
+ghost use Rattle.watchers.specs.WrittenLines.{WroteLineIfSeen};
 ghost use Rattle.edit_ops.specs.declared.edit.Edit.{Edit as TheEdit};
 ghost use Rattle.watchers.specs.declared.watcher.Told.{Told as TheAnswer};
 
@@ -57,7 +57,7 @@ pub trait Watcher: Drop {
         ensures faults_never_fall { faults self.old ≤ faults self.new }
         ensures never_refuses_kept { never_refuses self.old → (result ≡ Told.Kept)
             × never_refuses self.new }
-        ensures writes_line { Wrote (written self.old)
+        ensures writes_line { WroteLineIfSeen (written self.old)
             (record { doc = doc.now; note = note.now }) result (written self.new) }
         ensures answers_by_kind { answers self.old
             (record { doc = doc.now; note = note.now }) result };

@@ -1,7 +1,7 @@
 //! Several watchers, notified as one.
 ghost use Rattle.std.specs.Prelude.{◌≡◌, IsTrue, false, [], ◌∷◌, ◌++◌, List, option_to_list};
-ghost use Rattle.watchers.specs.inner.Rounds.{more_rounds, no_round};
-ghost use Rattle.watchers.specs.Notifications.{AreKept, HasKept, HasLeft};
+ghost use Rattle.watchers.specs.inner.RepeatedNotifications.{more_rounds, no_round};
+ghost use Rattle.watchers.specs.Notifications.{RemainOrLeave, HasKeptChange, HasLeftAt};
 
 use crate::notify_all::tell_all;
 use crate::watcher::{Told, Watcher};
@@ -29,7 +29,7 @@ pub trait Watchers<E> {
 /// they wrote until then.
 impl Watchers<Edit> for Vec<Box<dyn Watcher>> {
     ghost keeps = { λ edits old new.
-        AreKept (λ b. (Watcher-box b).told_list b.value) (λ b. (Watcher-box b).faults b.value)
+        RemainOrLeave (λ b. (Watcher-box b).told_list b.value) (λ b. (Watcher-box b).faults b.value)
         (λ b. (Watcher-box b).never_refuses b.value) (λ b. (Watcher-box b).answers b.value)
         (λ b. (Watcher-box b).written b.value)
         edits old.items new.items };
@@ -44,12 +44,13 @@ impl Watchers<Edit> for Vec<Box<dyn Watcher>> {
 }
 
 // Notifies a watcher of a change, and returns whether it kept it.
-fn is_kept<B: Watcher>(watcher: &mut B, edit: &Edit) -> bool
+fn notify_one<B: Watcher>(watcher: &mut B, edit: &Edit) -> bool
     ensures true_has_kept { IsTrue result
-        → HasKept B.told_list B.faults B.never_refuses B.answers B.written edit.now watcher.old
+        → HasKeptChange B.told_list B.faults B.never_refuses B.answers B.written edit.now
+        watcher.old
         watcher.new }
     ensures false_has_left { result ≡ false
-        → HasLeft B.told_list B.faults B.never_refuses B.answers B.written edit.now watcher.old
+        → HasLeftAt B.told_list B.faults B.never_refuses B.answers B.written edit.now watcher.old
         watcher.new }
 {
     watcher.told(&edit.doc, &edit.note) == Told::Kept
@@ -59,7 +60,7 @@ fn is_kept<B: Watcher>(watcher: &mut B, edit: &Edit) -> bool
 /// several are, and does not allocate by itself.
 impl<B: Watcher> Watchers<Edit> for Option<B> {
     ghost keeps = { λ edits old new.
-        AreKept B.told_list B.faults B.never_refuses B.answers B.written
+        RemainOrLeave B.told_list B.faults B.never_refuses B.answers B.written
         edits (option_to_list old) (option_to_list new) };
 
     ghost none = { λ w. no_round _ _ _ _ _ (option_to_list w) };
@@ -71,7 +72,7 @@ impl<B: Watcher> Watchers<Edit> for Option<B> {
         let Some(watcher) = self else {
             return;
         };
-        if !is_kept(watcher, edit) {
+        if !notify_one(watcher, edit) {
             *self = None;
         }
     }

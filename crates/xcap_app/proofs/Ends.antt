@@ -1,32 +1,32 @@
 -- How a command ends, by what it did.
 use Rattle.std.proofs.Common.{◌≡◌, ℕ, List, [], Option, None, Some, Result, Ok, Err, ◌⊎◌, inl, inr, refl, sym, subst, arith, ⊎_elim}
 use Rattle.xcap_io.proofs.TrafficSums.{gave_none}
-use Rattle.tree_text.specs.Faults.{TextAnswer}
-use Rattle.xml_names.specs.Memory.{Answered}
+use Rattle.tree_text.specs.Faults.{IsTextResult}
+use Rattle.xml_names.specs.ReadErrors.{ResultSatisfies}
 use Rattle.xml_names.specs.declared.read_error.ReadError.{ReadError}
 use Rattle.xml_names.specs.declared.read_error.ReadError.TheVariants as errors
 use Rattle.tree_text.specs.declared.fault.TextFault.{TextFault}
 use Rattle.doc_names.specs.declared.usages.Usage.{Usage as TheUsage}
 use Rattle.edit_ops.specs.declared.edit.Edit.{Edit}
 use Rattle.xml_tree.specs.Tree.{Tree}
-use Rattle.xcap_io.specs.Causes.{StreamState, CountRises}
-use Rattle.xcap_io.specs.StreamTraffic.{Took}
+use Rattle.xcap_io.specs.StreamStates.{StreamState, CountRises}
+use Rattle.xcap_io.specs.StreamTraffic.{TakesBytes}
 use Rattle.xcap_io.proofs.Lines.{reads_none}
-use Rattle.client_commands.specs.Endings.{CallStreams, CommandCall, MakesOneCall, delete_call, fetch_call}
-use Rattle.client_commands.specs.Follows.{Follows}
-use Rattle.client_commands.specs.Puts.{AsksNothing, PutOptions, PutStreams, Puts, call_streams}
+use Rattle.client_commands.specs.CommandEnds.{CallStreams, CommandCall, MakesOneCall, delete_call, fetch_call}
+use Rattle.client_commands.specs.FollowCommand.{FollowsDocument}
+use Rattle.client_commands.specs.PutCommand.{AsksNothing, PutOptions, PutStreams, PutsFromInput, call_streams}
 use Rattle.client_commands.specs.declared.command_end.CommandEnd.{CommandEnd}
-use Rattle.xcap_app.specs.ClientCommands.{FollowArguments, RunsAs, RunsCall, RunsFollow, RunsPut, ended_so, exit_of_client, follow_options, follows, knows_nothing, lacks_memory, means_none}
-use Rattle.xcap_app.specs.Checks.{Checks, Examines}
-use Rattle.xcap_app.specs.Replays.{ReplaysCommand}
-use Rattle.xcap_app.specs.Serves.{ServesCommand, ServiceArguments}
-use Rattle.xcap_app.specs.Exits.{IsRefused}
-use Rattle.xcap_app.specs.KeepCommand.{KeepsCommand, KeepsOn, OldJournal, exit_of_restart, keeps_on, no_journal, no_server}
-use Rattle.xcap_app.specs.Runs.{Runs, service}
+use Rattle.xcap_app.specs.ClientCommands.{FollowArguments, ExitsAs, RunsCall, RunsFollow, RunsPut, ended_so, exit_of_client, follow_options, follows, knows_nothing, lacks_memory, means_none}
+use Rattle.xcap_app.specs.CheckCommand.{ChecksCommand, ExaminesInput}
+use Rattle.xcap_app.specs.ReplayCommand.{ReplaysCommand}
+use Rattle.xcap_app.specs.ServeCommand.{ServesCommand, ServiceArguments}
+use Rattle.xcap_app.specs.Exits.{HasAllocatedMessage}
+use Rattle.xcap_app.specs.KeepCommand.{KeepsCommand, EndsKeep, OldJournal, exit_of_restart, keeps_on, no_journal, no_server}
+use Rattle.xcap_app.specs.CommandRuns.{RunsCommand, service_arguments}
 use Rattle.xcap_app.specs.RunStates.{IoStreams, KeepState, ReplayState, RunState, ServeState, ServiceState, call_part, io_part, keep_part, keep_service_state, put_part, replay_part, serve_part}
-use Rattle.xcap_app.specs.Samples.{RunsSample}
-use Rattle.xcap_app.specs.Messages.{IsReportedAs}
-use Rattle.xcap_app.specs.Verdicts.{AnswerVerdict, TextVerdict, refusal_of_text}
+use Rattle.xcap_app.specs.SampleCommand.{RunsSample}
+use Rattle.xcap_app.specs.ErrorMessages.{IsReportedAs}
+use Rattle.xcap_app.specs.TextVerdicts.{IsTreeVerdict, IsTextVerdict, refusal_of_text}
 use Rattle.xcap_app.specs.declared.command.Command.{Command}
 use Rattle.xcap_app.specs.declared.command.Command.TheVariants.{Replay, Serve, Keep, Check, Sample, Fetch, Put, Delete, Follow}
 use Rattle.xcap_app.specs.declared.exit.Exit.{Exit}
@@ -37,40 +37,40 @@ use Rattle.xcap_app.specs.declared.refusal.Refusal.TheVariants.{TooLarge, NotUtf
 -- ---- texts
 
 -- the verdict on a fault of a text is the verdict on the text
-pub fault_judged : (usage : TheUsage) (text : List ℕ) (read : Result Tree (ReadError TextFault)) (error : ReadError TextFault) (fault : TextFault) (exit : Exit) → read ≡ Err error → error ≡ errors.Fault fault → Answered (TextAnswer 64 [] text) read
-    → exit ≡ Refused (refusal_of_text fault) → TextVerdict usage text exit ⊎ (exit ≡ OutOfMemory)
+pub fault_judged : (usage : TheUsage) (text : List ℕ) (read : Result Tree (ReadError TextFault)) (error : ReadError TextFault) (fault : TextFault) (exit : Exit) → read ≡ Err error → error ≡ errors.Fault fault → ResultSatisfies (IsTextResult 64 [] text) read
+    → exit ≡ Refused (refusal_of_text fault) → IsTextVerdict usage text exit ⊎ (exit ≡ OutOfMemory)
 fault_judged usage text read error fault exit is told_so answers verdict =
-    let of_error : Answered (TextAnswer 64 [] text) (Err error) = subst (λ (r : Result Tree (ReadError TextFault)). Answered (TextAnswer 64 [] text) r) is answers in
-    let of_fault : TextAnswer 64 [] text (Err fault) = subst (λ (e : ReadError TextFault). Answered (TextAnswer 64 [] text) (Err e)) told_so of_error in
+    let of_error : ResultSatisfies (IsTextResult 64 [] text) (Err error) = subst (λ (r : Result Tree (ReadError TextFault)). ResultSatisfies (IsTextResult 64 [] text) r) is answers in
+    let of_fault : IsTextResult 64 [] text (Err fault) = subst (λ (e : ReadError TextFault). ResultSatisfies (IsTextResult 64 [] text) (Err e)) told_so of_error in
     inl (record { answer = Err fault; by_grammar = of_fault; verdict = verdict })
 
 -- and the verdict on its tree is the verdict on the text
-pub tree_judged : (usage : TheUsage) (text : List ℕ) (t : Tree) (exit : Exit) → TextAnswer 64 [] text (Ok t) → AnswerVerdict usage (Ok t) exit → TextVerdict usage text exit ⊎ (exit ≡ OutOfMemory)
+pub tree_judged : (usage : TheUsage) (text : List ℕ) (t : Tree) (exit : Exit) → IsTextResult 64 [] text (Ok t) → IsTreeVerdict usage (Ok t) exit → IsTextVerdict usage text exit ⊎ (exit ≡ OutOfMemory)
 tree_judged usage text t exit read verdict = inl (record { answer = Ok t; by_grammar = read; verdict = verdict })
 
 -- ---- commands of the client
 
 -- the reported exit, where memory ran out for its message
-told_out : (exit told : Exit) → IsRefused told → IsReportedAs exit told → IsReportedAs exit OutOfMemory
-told_out exit told is (inl same) = inr (subst IsRefused same is, refl)
-told_out exit told is (inr out) = absurd (subst IsRefused out.1 is)
+told_out : (exit told : Exit) → HasAllocatedMessage told → IsReportedAs exit told → IsReportedAs exit OutOfMemory
+told_out exit told is (inl same) = inr (subst HasAllocatedMessage same is, refl)
+told_out exit told is (inr out) = absurd (subst HasAllocatedMessage out.1 is)
 
 -- a command for whose message memory ran out
-words_lacking : (Did : CommandEnd → Type 0) (Nothing : Type 0) (exit : Exit) → IsRefused exit → RunsAs Did Nothing exit → RunsAs Did Nothing OutOfMemory
+words_lacking : (Did : CommandEnd → Type 0) (Nothing : Type 0) (exit : Exit) → HasAllocatedMessage exit → ExitsAs Did Nothing exit → ExitsAs Did Nothing OutOfMemory
 words_lacking Did Nothing exit is (ended_so ended did told) = ended_so ended did (told_out (exit_of_client ended) exit is told)
 words_lacking Did Nothing exit is (lacks_memory nothing ends) = lacks_memory nothing refl
 
-call_lacking : (call : CommandCall) (exit : Exit) (old new : CallStreams) → IsRefused exit → RunsCall call exit old new → RunsCall call OutOfMemory old new
+call_lacking : (call : CommandCall) (exit : Exit) (old new : CallStreams) → HasAllocatedMessage exit → RunsCall call exit old new → RunsCall call OutOfMemory old new
 call_lacking call exit old new is runs = words_lacking (λ ended. MakesOneCall call ended old new) (AsksNothing old new) exit is runs
 
-put_lacking : (options : PutOptions) (exit : Exit) (old new : PutStreams) → IsRefused exit → RunsPut options exit old new → RunsPut options OutOfMemory old new
+put_lacking : (options : PutOptions) (exit : Exit) (old new : PutStreams) → HasAllocatedMessage exit → RunsPut options exit old new → RunsPut options OutOfMemory old new
 put_lacking options exit old new is runs =
-    words_lacking (λ ended. Puts options ended old new) ((new.input ≡ old.input) × AsksNothing (call_streams old) (call_streams new)) exit is runs
+    words_lacking (λ ended. PutsFromInput options ended old new) ((new.input ≡ old.input) × AsksNothing (call_streams old) (call_streams new)) exit is runs
 
-follow_lacking : (arguments : FollowArguments) (exit : Exit) (old new : CallStreams) → IsRefused exit → RunsFollow arguments exit old new → RunsFollow arguments OutOfMemory old new
+follow_lacking : (arguments : FollowArguments) (exit : Exit) (old new : CallStreams) → HasAllocatedMessage exit → RunsFollow arguments exit old new → RunsFollow arguments OutOfMemory old new
 follow_lacking arguments exit old new is (follows doc means runs) =
-    follows doc means (words_lacking (λ ended. Follows (follow_options arguments doc) ended old new) (AsksNothing old new) exit is runs)
-follow_lacking arguments exit old new is (means_none none usage nothing) = absurd (subst IsRefused usage is)
+    follows doc means (words_lacking (λ ended. FollowsDocument (follow_options arguments doc) ended old new) (AsksNothing old new) exit is runs)
+follow_lacking arguments exit old new is (means_none none usage nothing) = absurd (subst HasAllocatedMessage usage is)
 follow_lacking arguments exit old new is (knows_nothing ends nothing) = knows_nothing refl nothing
 
 module _ {W : Type 0} (Keeps : List Edit → W → W → Type 0) where
@@ -78,7 +78,7 @@ module _ {W : Type 0} (Keeps : List Edit → W → W → Type 0) where
   state_of port peer input output w = record { port = port; peer = peer; input = input; output = output; watchers = w }
 
   -- memory ran out before anything was done
-  pub ran_out : (command : Option Command) (port peer input output : StreamState) (w : W) → Runs Keeps command OutOfMemory (state_of port peer input output w) (state_of port peer input output w)
+  pub ran_out : (command : Option Command) (port peer input output : StreamState) (w : W) → RunsCommand Keeps command OutOfMemory (state_of port peer input output w) (state_of port peer input output w)
   ran_out None port peer input output w = (inr refl, refl)
   ran_out (Some (Replay root)) port peer input output w = (refl, refl, refl)
   ran_out (Some (Serve address root count)) port peer input output w = (refl, refl, refl)
@@ -92,14 +92,14 @@ module _ {W : Type 0} (Keeps : List Edit → W → W → Type 0) where
   ran_out (Some (Follow requester document rounds)) port peer input output w = (knows_nothing refl (refl, refl), refl, refl, refl)
 
   -- an input that was refused, where memory ran out for the message
-  refused_out : (usage : TheUsage) (refusal : Refusal) (input input' : StreamState) → Examines usage (Refused refusal) input input' → Examines usage OutOfMemory input input'
+  refused_out : (usage : TheUsage) (refusal : Refusal) (input input' : StreamState) → ExaminesInput usage (Refused refusal) input input' → ExaminesInput usage OutOfMemory input input'
   refused_out usage TooLarge input input' e = (e.0, e.1, omega (arith, e.2))
   refused_out usage NotUtf8 input input' e = (e.0, e.1.gave, omega (arith, e.1.fits))
   refused_out usage (NotWellFormed place) input input' e = (e.0, e.1.gave, omega (arith, e.1.fits))
   refused_out usage (Faulty fault) input input' e = (e.0, e.1.gave, omega (arith, e.1.fits))
 
-  never_on : (IsWritten : List ℕ → Type 0) (HasFailed : Type 0) (arguments : ServiceArguments) (exit : Exit) (journal : OldJournal) (old new : ServiceState W) {X : Type 0} → IsRefused exit
-      → KeepsOn Keeps IsWritten HasFailed arguments exit journal old new → X
+  never_on : (IsWritten : List ℕ → Type 0) (HasFailed : Type 0) (arguments : ServiceArguments) (exit : Exit) (journal : OldJournal) (old new : ServiceState W) {X : Type 0} → HasAllocatedMessage exit
+      → EndsKeep Keeps IsWritten HasFailed arguments exit journal old new → X
   never_on IsWritten HasFailed arguments Done journal old new is k = absurd is
   never_on IsWritten HasFailed arguments Usage journal old new is k = absurd is
   never_on IsWritten HasFailed arguments InputFailed journal old new is k = absurd is
@@ -110,13 +110,13 @@ module _ {W : Type 0} (Keeps : List Edit → W → W → Type 0) where
   never_on IsWritten HasFailed arguments (BadJournal refusal) journal old new is k = absurd k
   never_on IsWritten HasFailed arguments OutOfMemory journal old new is k = absurd is
 
-  unkept : (arguments : ServiceArguments) (exit : Exit) (old new : KeepState W) → IsRefused exit → KeepsCommand Keeps arguments exit old new → KeepsCommand Keeps arguments OutOfMemory old new
+  unkept : (arguments : ServiceArguments) (exit : Exit) (old new : KeepState W) → HasAllocatedMessage exit → KeepsCommand Keeps arguments exit old new → KeepsCommand Keeps arguments OutOfMemory old new
   unkept arguments exit old new is (no_server out same) = no_server refl same
   unkept arguments exit old new is (no_journal fault told breaks p same) = no_journal fault (told_out (exit_of_restart fault) exit is told) breaks p same
   unkept arguments exit old new is (keeps_on journal reads just k) =
-      never_on (Took old.output.taken new.output.taken) (CountRises old.output.write_faults new.output.write_faults) arguments exit journal (keep_service_state old) (keep_service_state new) is k
+      never_on (TakesBytes old.output.taken new.output.taken) (CountRises old.output.write_faults new.output.write_faults) arguments exit journal (keep_service_state old) (keep_service_state new) is k
 
-  check_refused : (usage : TheUsage) (exit : Exit) (old new : IoStreams) → IsRefused exit → Checks usage exit old new → Checks usage OutOfMemory old new
+  check_refused : (usage : TheUsage) (exit : Exit) (old new : IoStreams) → HasAllocatedMessage exit → ChecksCommand usage exit old new → ChecksCommand usage OutOfMemory old new
   check_refused usage Done old new is r = absurd is
   check_refused usage Usage old new is r = absurd is
   check_refused usage InputFailed old new is r = absurd is
@@ -127,7 +127,7 @@ module _ {W : Type 0} (Keeps : List Edit → W → W → Type 0) where
   check_refused usage (BadJournal refusal) old new is r = absurd r
   check_refused usage OutOfMemory old new is r = r
 
-  sample_refused : (requests : ℕ) (exit : Exit) (output output' : StreamState) → IsRefused exit → RunsSample requests exit output output' → ⊥
+  sample_refused : (requests : ℕ) (exit : Exit) (output output' : StreamState) → HasAllocatedMessage exit → RunsSample requests exit output output' → ⊥
   sample_refused requests Done output output' is r = is
   sample_refused requests Usage output output' is r = is
   sample_refused requests InputFailed output output' is r = is
@@ -138,7 +138,7 @@ module _ {W : Type 0} (Keeps : List Edit → W → W → Type 0) where
   sample_refused requests (BadJournal refusal) output output' is r = r
   sample_refused requests OutOfMemory output output' is r = is
 
-  replay_refused : (root : List ℕ) (exit : Exit) (old new : ReplayState W) → IsRefused exit → ReplaysCommand Keeps root exit old new → ⊥
+  replay_refused : (root : List ℕ) (exit : Exit) (old new : ReplayState W) → HasAllocatedMessage exit → ReplaysCommand Keeps root exit old new → ⊥
   replay_refused root Done old new is r = is
   replay_refused root Usage old new is r = is
   replay_refused root InputFailed old new is r = is
@@ -149,7 +149,7 @@ module _ {W : Type 0} (Keeps : List Edit → W → W → Type 0) where
   replay_refused root (BadJournal refusal) old new is r = r
   replay_refused root OutOfMemory old new is r = is
 
-  serve_refused : (arguments : ServiceArguments) (exit : Exit) (old new : ServeState W) → IsRefused exit → ServesCommand Keeps arguments exit old new → ⊥
+  serve_refused : (arguments : ServiceArguments) (exit : Exit) (old new : ServeState W) → HasAllocatedMessage exit → ServesCommand Keeps arguments exit old new → ⊥
   serve_refused arguments Done old new is r = is
   serve_refused arguments Usage old new is r = is
   serve_refused arguments InputFailed old new is r = is
@@ -160,17 +160,17 @@ module _ {W : Type 0} (Keeps : List Edit → W → W → Type 0) where
   serve_refused arguments (BadJournal refusal) old new is r = r
   serve_refused arguments OutOfMemory old new is r = is
 
-  unspelled_refused : (exit : Exit) → IsRefused exit → (exit ≡ Usage) ⊎ (exit ≡ OutOfMemory) → ⊥
-  unspelled_refused exit is (inl usage) = subst IsRefused usage is
-  unspelled_refused exit is (inr out) = subst IsRefused out is
+  unspelled_refused : (exit : Exit) → HasAllocatedMessage exit → (exit ≡ Usage) ⊎ (exit ≡ OutOfMemory) → ⊥
+  unspelled_refused exit is (inl usage) = subst HasAllocatedMessage usage is
+  unspelled_refused exit is (inr out) = subst HasAllocatedMessage out is
 
-  ran_refused : (command : Option Command) (exit : Exit) (old new : RunState W) → IsRefused exit → Runs Keeps command exit old new → Runs Keeps command OutOfMemory old new
+  ran_refused : (command : Option Command) (exit : Exit) (old new : RunState W) → HasAllocatedMessage exit → RunsCommand Keeps command exit old new → RunsCommand Keeps command OutOfMemory old new
   ran_refused None exit old new is r = absurd (unspelled_refused exit is r.0)
   ran_refused (Some (Replay root)) exit old new is r = absurd (replay_refused root exit (replay_part old) (replay_part new) is r.0)
   ran_refused (Some (Serve address root count)) exit old new is r =
-      absurd (serve_refused (service address root count) exit (serve_part old) (serve_part new) is r.0)
+      absurd (serve_refused (service_arguments address root count) exit (serve_part old) (serve_part new) is r.0)
   ran_refused (Some (Keep address root count)) exit old new is r =
-      (unkept (service address root count) exit (keep_part old) (keep_part new) is r.0, r.1)
+      (unkept (service_arguments address root count) exit (keep_part old) (keep_part new) is r.0, r.1)
   ran_refused (Some (Check usage)) exit old new is r = (check_refused usage exit (io_part old) (io_part new) is r.0, r.1, r.2, r.3)
   ran_refused (Some (Sample requests)) exit old new is r = absurd (sample_refused requests exit old.output new.output is r.0)
   ran_refused (Some (Fetch requester path)) exit old new is r = (call_lacking (fetch_call requester path) exit (call_part old) (call_part new) is r.0, r.1, r.2, r.3)
@@ -180,18 +180,18 @@ module _ {W : Type 0} (Keeps : List Edit → W → W → Type 0) where
   ran_refused (Some (Follow requester document rounds)) exit old new is r =
       (follow_lacking (record { requester = requester; document = document; rounds = rounds }) exit (call_part old) (call_part new) is r.0, r.1, r.2, r.3)
 
-  told_of : (command : Option Command) (exit told : Exit) (old new : RunState W) → IsReportedAs exit told → Runs Keeps command exit old new → Runs Keeps command told old new
+  told_of : (command : Option Command) (exit told : Exit) (old new : RunState W) → IsReportedAs exit told → RunsCommand Keeps command exit old new → RunsCommand Keeps command told old new
   told_of command exit told old new is r = ⊎_elim
-      (λ (e : told ≡ exit). subst (λ x. Runs Keeps command x old new) (sym e) r)
-      (λ (k : IsRefused exit × (told ≡ OutOfMemory)). subst (λ x. Runs Keeps command x old new) (sym k.1) (ran_refused command exit old new k.0 r))
+      (λ (e : told ≡ exit). subst (λ x. RunsCommand Keeps command x old new) (sym e) r)
+      (λ (k : HasAllocatedMessage exit × (told ≡ OutOfMemory)). subst (λ x. RunsCommand Keeps command x old new) (sym k.1) (ran_refused command exit old new k.0 r))
       is
 
   pub ran_told : (command : Option Command) (exit told : Exit) (port port' peer peer' input input' output output' : StreamState) (w w' : W) → IsReportedAs exit told
-      → Runs Keeps command exit (state_of port peer input output w) (state_of port' peer' input' output' w') → Runs Keeps command told (state_of port peer input output w) (state_of port' peer' input' output' w')
+      → RunsCommand Keeps command exit (state_of port peer input output w) (state_of port' peer' input' output' w') → RunsCommand Keeps command told (state_of port peer input output w) (state_of port' peer' input' output' w')
   ran_told command exit told port port' peer peer' input input' output output' w w' is r = told_of command exit told (state_of port peer input output w) (state_of port' peer' input' output' w') is r
 
   -- a command equal to this one
   pub ran_as : (command same : Command) (exit : Exit) (port port' peer peer' input input' output output' : StreamState) (w w' : W) → command ≡ same
-      → Runs Keeps (Some same) exit (state_of port peer input output w) (state_of port' peer' input' output' w') → Runs Keeps (Some command) exit (state_of port peer input output w) (state_of port' peer' input' output' w')
+      → RunsCommand Keeps (Some same) exit (state_of port peer input output w) (state_of port' peer' input' output' w') → RunsCommand Keeps (Some command) exit (state_of port peer input output w) (state_of port' peer' input' output' w')
   ran_as command same exit port port' peer peer' input input' output output' w w' is r =
-      subst (λ (k : Command). Runs Keeps (Some k) exit (state_of port peer input output w) (state_of port' peer' input' output' w')) (sym is) r
+      subst (λ (k : Command). RunsCommand Keeps (Some k) exit (state_of port peer input output w) (state_of port' peer' input' output' w')) (sym is) r

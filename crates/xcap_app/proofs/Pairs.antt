@@ -5,16 +5,16 @@ use Rattle.store_core.specs.ValidStates.{IsValidState}
 use Rattle.store_core.specs.State.{State}
 use Rattle.xcap_machine.specs.Machine.{ValidStep}
 use Rattle.edit_ops.specs.declared.edit.Edit.{Edit}
-use Rattle.xcap_io.specs.Causes.{HiddenState, StreamState}
-use Rattle.xcap_io.specs.Pairs.{pair_state}
+use Rattle.xcap_io.specs.StreamStates.{HiddenState, StreamState}
+use Rattle.xcap_io.specs.StreamPairs.{pair_state}
 use Rattle.xcap_io.proofs.PairLemmas.{Through, through}
-use Rattle.http_serve.specs.Connections.{ServesStream}
-use Rattle.http_serve.specs.ReplyBytes.{InBytes}
+use Rattle.http_serve.specs.ServedStreams.{ServesStream}
+use Rattle.http_serve.specs.ReplyBytes.{StepsInBytes}
 use Rattle.http_wire.specs.declared.close_reason.CloseReason.{CloseReason}
-use Rattle.xcap_app.specs.Frames.{JustRead, JustWritten}
-use Rattle.xcap_app.specs.Replays.{ServesInput}
+use Rattle.xcap_app.specs.StreamFrames.{ReadsOnly, WritesOnly}
+use Rattle.xcap_app.specs.ReplayCommand.{ServesInput}
 
-just_read : (input output input' output' : StreamState) → Through input output input' output' → JustRead input input'
+just_read : (input output input' output' : StreamState) → Through input output input' output' → ReadsOnly input input'
 just_read input output input' output' t = record {
   same_taken = ap (λ (m : HiddenState). m.taken) t.same_unread;
   same_write_faults = ap (λ (m : HiddenState). m.faults) t.same_unread;
@@ -24,7 +24,7 @@ just_read input output input' output' t = record {
   same_peer = ap (λ (m : HiddenState). m.peer) t.same_unread;
 }
 
-just_written : (input output input' output' : StreamState) → Through input output input' output' → JustWritten output output'
+just_written : (input output input' output' : StreamState) → Through input output input' output' → WritesOnly output output'
 just_written input output input' output' t = record {
   same_inward = ap (λ (m : HiddenState). m.inward) t.same_unwritten;
   same_read_faults = ap (λ (m : HiddenState). m.faults) t.same_unwritten;
@@ -37,11 +37,11 @@ just_written input output input' output' t = record {
 module _ {W : Type 0} (Keeps : List Edit → W → W → Type 0) where
   pub by_pair : (root : List ℕ) (ended : CloseReason) (m m' : State) (input output input' output' made : StreamState) (a o a' o' : GName) (w w' : W)
       → made ≡ pair_state input output (a ∷ o ∷ []) → IsValidState m'
-      → ServesStream (InBytes (ValidStep root)) Keeps ended (record { machine = m; stream = made; watchers = w }) (record { machine = m'; stream = pair_state input' output' (a' ∷ o' ∷ []); watchers = w' })
+      → ServesStream (StepsInBytes (ValidStep root)) Keeps ended (record { machine = m; stream = made; watchers = w }) (record { machine = m'; stream = pair_state input' output' (a' ∷ o' ∷ []); watchers = w' })
       → ServesInput Keeps root m ended (record { input = input; output = output; watchers = w }) (record { input = input'; output = output'; watchers = w' })
   by_pair root ended m m' input output input' output' made a o a' o' w w' was kept s =
-      let on : ServesStream (InBytes (ValidStep root)) Keeps ended (record { machine = m; stream = pair_state input output (a ∷ o ∷ []); watchers = w }) (record { machine = m'; stream = pair_state input' output' (a' ∷ o' ∷ []); watchers = w' }) =
-      subst (λ (l : StreamState). ServesStream (InBytes (ValidStep root)) Keeps ended (record { machine = m; stream = l; watchers = w }) (record { machine = m'; stream = pair_state input' output' (a' ∷ o' ∷ []); watchers = w' })) was s in
+      let on : ServesStream (StepsInBytes (ValidStep root)) Keeps ended (record { machine = m; stream = pair_state input output (a ∷ o ∷ []); watchers = w }) (record { machine = m'; stream = pair_state input' output' (a' ∷ o' ∷ []); watchers = w' }) =
+      subst (λ (l : StreamState). ServesStream (StepsInBytes (ValidStep root)) Keeps ended (record { machine = m; stream = l; watchers = w }) (record { machine = m'; stream = pair_state input' output' (a' ∷ o' ∷ []); watchers = w' })) was s in
       let t : Through input output input' output' = through input output input' output' on.exchanges.same_holds on.exchanges.same_aside in
       record {
         state = m';

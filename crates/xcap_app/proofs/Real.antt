@@ -3,42 +3,42 @@ use Rattle.std.proofs.Common.{◌≡◌, ℕ, List, [], ◌++◌, inl, inr, ⊎_
 use Rattle.std.specs.Prelude.{codes, length}
 use Rattle.edit_ops.specs.declared.edit.Edit.{Edit}
 use Rattle.store_core.specs.State.{first_state}
-use Rattle.http_wire.specs.ServedConnections.{Serves as ServesOne, ServesAll, on_stream}
+use Rattle.http_wire.specs.ServedConnections.{ServesConnection as ServesOne, ServesAll, machine_on_stream}
 use Rattle.http_wire.specs.declared.close_reason.CloseReason.TheVariants.{Closed}
 use Rattle.http_serve.specs.FixedReplies.{fixed_reply}
 use Rattle.xcap_machine.specs.Machine.{ValidStep}
-use Rattle.http_serve.specs.ReplyBytes.{InBytes}
-use Rattle.http_serve.specs.Ports.{Stops}
+use Rattle.http_serve.specs.ReplyBytes.{StepsInBytes}
+use Rattle.http_serve.specs.ServedPorts.{HasStopReason}
 use Rattle.http_serve.specs.declared.accept_loop.StopReason.{StopReason}
 use Rattle.http_serve.specs.declared.accept_loop.StopReason.TheVariants.{Count, NoMore, PortFailed}
-use Rattle.xcap_io.specs.Causes.{Begun, StreamState, none_begun}
-use Rattle.xcap_io.specs.Connections.{port_traffic, listening_at, traffic}
-use Rattle.xcap_io.specs.Histories.{Traffic, carried_by}
-use Rattle.xcap_io.specs.StreamTraffic.{Took}
-use Rattle.xcap_client.specs.declared.fault.ClientFault.TheVariants as clients
-use Rattle.client_follower.specs.declared.fault.FollowerFault.{FollowerFault}
-use Rattle.client_follower.specs.declared.fault.FollowerFault.TheVariants as faults
-use Rattle.client_commands.specs.Endings.{CallStreams, CommandCall, MakesOneCall, delete_call, fetch_call}
-use Rattle.client_commands.specs.Follows.{Follows}
-use Rattle.client_commands.specs.Puts.{AsksNothing, PutOptions, PutStreams, Puts, call_streams}
-use Rattle.client_commands.specs.Words.{status_of_fault}
+use Rattle.xcap_io.specs.StreamStates.{BegunConnections, StreamState, no_connections}
+use Rattle.xcap_io.specs.Connections.{port_traffic, with_listening_address, traffic}
+use Rattle.xcap_io.specs.ConnectionHistories.{Traffic, all_traffic}
+use Rattle.xcap_io.specs.StreamTraffic.{TakesBytes}
+use Rattle.xcap_client.specs.declared.client_fault.ClientFault.TheVariants as clients
+use Rattle.client_follower.specs.declared.follower_fault.FollowerFault.{FollowerFault}
+use Rattle.client_follower.specs.declared.follower_fault.FollowerFault.TheVariants as faults
+use Rattle.client_commands.specs.CommandEnds.{CallStreams, CommandCall, MakesOneCall, delete_call, fetch_call}
+use Rattle.client_commands.specs.FollowCommand.{FollowsDocument}
+use Rattle.client_commands.specs.PutCommand.{AsksNothing, PutOptions, PutStreams, PutsFromInput, call_streams}
+use Rattle.client_commands.specs.FaultMessages.{status_of_fault}
 use Rattle.client_commands.specs.declared.command_end.CommandEnd.{CommandEnd}
 use Rattle.client_commands.specs.declared.command_end.CommandEnd.TheVariants as ends
-use Rattle.xcap_app.specs.ClientCommands.{FollowArguments, RunsAs, RunsCall, RunsFollow, RunsPut, ended_so, exit_of_client, follow_options, follows, knows_nothing, lacks_memory, means_none}
+use Rattle.xcap_app.specs.ClientCommands.{FollowArguments, ExitsAs, RunsCall, RunsFollow, RunsPut, ended_so, exit_of_client, follow_options, follows, knows_nothing, lacks_memory, means_none}
 use Rattle.xcap_app.specs.Exits.{status_of}
 use Rattle.xcap_app.specs.KeepCommand.{KeepsCommand, exit_of_restart, keeps_on, no_journal, no_server}
-use Rattle.xcap_app.specs.Replays.{ReplaysCommand}
-use Rattle.xcap_app.specs.Messages.{IsReportedAs}
-use Rattle.edit_journal.specs.Texts.{Whole, text}
+use Rattle.xcap_app.specs.ReplayCommand.{ReplaysCommand}
+use Rattle.xcap_app.specs.ErrorMessages.{IsReportedAs}
+use Rattle.edit_journal.specs.JournalTexts.{HasCompleteRecords, journal_text}
 use Rattle.edit_journal.specs.declared.journal_restart.RestartFault.{RestartFault}
 use Rattle.edit_journal.specs.declared.journal_restart.RestartFault.TheVariants as restart_faults
 use Rattle.edit_journal.specs.LoggedMachines.{LoggedStep}
-use Rattle.xcap_app.specs.Runs.{Runs, service}
+use Rattle.xcap_app.specs.CommandRuns.{RunsCommand, service_arguments}
 use Rattle.xcap_app.specs.RunStates.{RunState, call_part, keep_part, put_part, replay_part, serve_part}
-use Rattle.xcap_app.specs.Serves.{IsComplete, ServiceArguments, served_line, ServesCommand as Serves}
-use Rattle.xcap_app.specs.System.{AnswersAll, AnswersInput, AnswersKept, FollowsNamed, IsDone}
-use Rattle.xcap_app.specs.Verdicts.{TextVerdict}
-use Rattle.xcap_app.specs.Samples.{summary_text}
+use Rattle.xcap_app.specs.ServeCommand.{IsCompleteStop, ServiceArguments, served_line, ServesCommand as Serves}
+use Rattle.xcap_app.specs.SystemRuns.{AnswersAllConnections, AnswersInput, AnswersAfterJournal, FollowsNamedDocument, DoesCommand}
+use Rattle.xcap_app.specs.TextVerdicts.{IsTextVerdict}
+use Rattle.xcap_app.specs.SampleCommand.{summary_text}
 use Rattle.xcap_app.specs.declared.command.Command.{Command}
 use Rattle.xcap_app.specs.declared.command.Command.TheVariants.{Replay, Serve, Keep, Check, Sample, Fetch, Put, Delete, Follow}
 use Rattle.xcap_app.specs.declared.exit.Exit.{Exit}
@@ -68,12 +68,12 @@ is_done (BadJournal refusal) zero = absurd (omega arith)
 is_done OutOfMemory zero = absurd (omega arith)
 
 -- the bytes taken by an output that had taken nothing
-took_all : (old new bytes : List ℕ) → old ≡ [] → Took old new bytes → new ≡ bytes
+took_all : (old new bytes : List ℕ) → old ≡ [] → TakesBytes old new bytes → new ≡ bytes
 took_all old new bytes none took = took ∙ ap (λ (l : List ℕ). l ++ bytes) none
 
 -- a port whose connections to come are unknown didn't end, so as many connections were served as
 -- were wanted
-carried_all : (stop : StopReason) (most connections : ℕ) (all served : List Traffic) (old new : StreamState) → new.port.to_come ≡ None → Stops stop most connections old new → IsComplete stop
+carried_all : (stop : StopReason) (most connections : ℕ) (all served : List Traffic) (old new : StreamState) → new.port.to_come ≡ None → HasStopReason stop most connections old new → IsCompleteStop stop
     → all ≡ served → length served ≡ connections → length all ≡ most
 carried_all Count most connections all served old new untold stops complete same many = ap (λ (l : List Traffic). length l) same ∙ many ∙ stops.0
 carried_all NoMore most connections all served old new untold stops complete same many = let no : ⊥ = cc (sym untold ∙ stops.1) in absurd no
@@ -91,7 +91,7 @@ ended_well ends.OutOfMemory is = absurd cc
 never_out : Done ≡ OutOfMemory → ⊥
 never_out is = cc
 
-command_done : (Did : CommandEnd → Type 0) (Nothing : Type 0) (exit : Exit) → exit ≡ Done → RunsAs Did Nothing exit → Did ends.Done
+command_done : (Did : CommandEnd → Type 0) (Nothing : Type 0) (exit : Exit) → exit ≡ Done → ExitsAs Did Nothing exit → Did ends.Done
 command_done Did Nothing exit done (ended_so ended did (inl is)) = subst Did (ended_well ended (sym done ∙ is)) did
 command_done Did Nothing exit done (ended_so ended did (inr out)) = absurd (never_out (sym done ∙ out.1))
 command_done Did Nothing exit done (lacks_memory nothing is) = absurd (never_out (sym done ∙ is))
@@ -102,14 +102,14 @@ never_usage is = cc
 call_done : (call : CommandCall) (old new : CallStreams) → RunsCall call Done old new → MakesOneCall call ends.Done old new
 call_done call old new runs = command_done (λ ended. MakesOneCall call ended old new) (AsksNothing old new) Done refl runs
 
-put_done : (options : PutOptions) (old new : PutStreams) → RunsPut options Done old new → Puts options ends.Done old new
-put_done options old new runs = command_done (λ ended. Puts options ended old new) ((new.input ≡ old.input) × AsksNothing (call_streams old) (call_streams new)) Done refl runs
+put_done : (options : PutOptions) (old new : PutStreams) → RunsPut options Done old new → PutsFromInput options ends.Done old new
+put_done options old new runs = command_done (λ ended. PutsFromInput options ended old new) ((new.input ≡ old.input) × AsksNothing (call_streams old) (call_streams new)) Done refl runs
 
-follow_done : (arguments : FollowArguments) (exit : Exit) (old new : CallStreams) → exit ≡ Done → RunsFollow arguments exit old new → FollowsNamed arguments old new
+follow_done : (arguments : FollowArguments) (exit : Exit) (old new : CallStreams) → exit ≡ Done → RunsFollow arguments exit old new → FollowsNamedDocument arguments old new
 follow_done arguments exit old new done (follows doc means runs) = record {
   doc = doc;
   meant = means;
-  follows = command_done (λ ended. Follows (follow_options arguments doc) ended old new) (AsksNothing old new) exit done runs;
+  follows = command_done (λ ended. FollowsDocument (follow_options arguments doc) ended old new) (AsksNothing old new) exit done runs;
 }
 follow_done arguments exit old new done (means_none none usage nothing) = absurd (never_usage (sym done ∙ usage))
 follow_done arguments exit old new done (knows_nothing is nothing) = absurd (never_out (sym done ∙ is))
@@ -129,12 +129,12 @@ module _ {W : Type 0} (Keeps : List Edit → W → W → Type 0) where
       record {
         state = r.state;
         edits = r.edits;
-        serves = subst (λ (t : Traffic). ServesOne (InBytes (ValidStep root)) fixed_reply Closed (first_state 1) t r.state r.edits) is r.serves;
+        serves = subst (λ (t : Traffic). ServesOne (StepsInBytes (ValidStep root)) fixed_reply Closed (first_state 1) t r.state r.edits) is r.serves;
         told = r.told;
       }
 
-  port_done : (arguments : ServiceArguments) (old new : RunState W) → old.port.port.begun ≡ none_begun → old.output.taken ≡ [] → new.port.port.to_come ≡ None
-      → Serves Keeps arguments Done (serve_part old) (serve_part new) → AnswersAll Keeps arguments.root old new × (length (port_traffic new.port) ≡ arguments.count) × (new.output.taken ≡ served_line arguments.count)
+  port_done : (arguments : ServiceArguments) (old new : RunState W) → old.port.port.begun ≡ no_connections → old.output.taken ≡ [] → new.port.port.to_come ≡ None
+      → Serves Keeps arguments Done (serve_part old) (serve_part new) → AnswersAllConnections Keeps arguments.root old new × (length (port_traffic new.port) ≡ arguments.count) × (new.output.taken ≡ served_line arguments.count)
   port_done arguments old new none_yet none_taken untold (served, s, complete, takes) =
       let address = arguments.address in
       let root = arguments.root in
@@ -144,12 +144,12 @@ module _ {W : Type 0} (Keeps : List Edit → W → W → Type 0) where
       let output = old.output in
       let output' = new.output in
       let v = s.serves in
-      let all : port_traffic port' ≡ v.connections = v.all_carried ∙ ap (λ (b : Begun). carried_by b.earlier b.is_present (traffic port) ++ v.connections) none_yet in
-      let counted = carried_all served.stop count served.connections (port_traffic port') v.connections (listening_at port address) port' untold v.stop complete all v.count in (
+      let all : port_traffic port' ≡ v.connections = v.all_carried ∙ ap (λ (b : BegunConnections). all_traffic b.earlier b.is_present (traffic port) ++ v.connections) none_yet in
+      let counted = carried_all served.stop count served.connections (port_traffic port') v.connections (with_listening_address port address) port' untold v.stop complete all v.count in (
         record {
           state = s.state;
           edits = v.edits;
-          serves = subst (λ (l : List Traffic). ServesAll (InBytes (ValidStep root)) fixed_reply (on_stream (first_state 1) port) (on_stream s.state port') l v.edits) (sym all) v.serves;
+          serves = subst (λ (l : List Traffic). ServesAll (StepsInBytes (ValidStep root)) fixed_reply (machine_on_stream (first_state 1) port) (machine_on_stream s.state port') l v.edits) (sym all) v.serves;
           told = v.kept;
         },
         counted,
@@ -171,8 +171,8 @@ module _ {W : Type 0} (Keeps : List Edit → W → W → Type 0) where
       not_done restart_faults.NoMemory is = let no : ⊥ = cc in absurd no
   never_done fault (inr out) = let no : ⊥ = cc (out.1) in absurd no
 
-  kept_done : (arguments : ServiceArguments) (old new : RunState W) → old.port.port.begun ≡ none_begun → old.input.inward.given ≡ [] → old.output.taken ≡ [] → new.port.port.to_come ≡ None
-      → KeepsCommand Keeps arguments Done (keep_part old) (keep_part new) → AnswersKept Keeps arguments.root arguments.count old new
+  kept_done : (arguments : ServiceArguments) (old new : RunState W) → old.port.port.begun ≡ no_connections → old.input.inward.given ≡ [] → old.output.taken ≡ [] → new.port.port.to_come ≡ None
+      → KeepsCommand Keeps arguments Done (keep_part old) (keep_part new) → AnswersAfterJournal Keeps arguments.root arguments.count old new
   kept_done arguments old new none_yet none_given none_taken untold (no_server out same) = absurd (never_out out)
   kept_done arguments old new none_yet none_given none_taken untold (no_journal fault told breaks p same) = never_done fault told
   kept_done arguments old new none_yet none_given none_taken untold (keeps_on journal reads just (served, kept, complete)) =
@@ -186,7 +186,7 @@ module _ {W : Type 0} (Keeps : List Edit → W → W → Type 0) where
       let output = old.output in
       let output' = new.output in
       let v = kept.serves in
-      let all : port_traffic port' ≡ v.connections = v.all_carried ∙ ap (λ (b : Begun). carried_by b.earlier b.is_present (traffic port) ++ v.connections) none_yet in
+      let all : port_traffic port' ≡ v.connections = v.all_carried ∙ ap (λ (b : BegunConnections). all_traffic b.earlier b.is_present (traffic port) ++ v.connections) none_yet in
       let given : input'.inward.given ≡ journal.bytes = took_all input.inward.given input'.inward.given journal.bytes none_given reads.records.given.behind in
       record {
         requests = journal.requests;
@@ -195,26 +195,26 @@ module _ {W : Type 0} (Keeps : List Edit → W → W → Type 0) where
         accepted = kept.accepted;
         next = kept.next;
         edits = v.edits;
-        read = subst (λ (bytes : List ℕ). Whole bytes journal.requests journal.rest) (sym given) reads.whole;
+        read = subst (λ (bytes : List ℕ). HasCompleteRecords bytes journal.requests journal.rest) (sym given) reads.whole;
         torn = reads.torn;
         redone = reads.records.redone;
-        serves = subst (λ (l : List Traffic). ServesAll (InBytes (LoggedStep (ValidStep root))) fixed_reply (on_stream (record { machine = journal.state; requests = journal.requests; failures = 0 }) port)
-            (on_stream (record { machine = kept.next; requests = kept.accepted; failures = 0 }) port') l v.edits) (sym all) v.serves;
-        counted = carried_all served.stop count served.connections (port_traffic port') v.connections (listening_at port address) port' untold v.stop complete all v.count;
+        serves = subst (λ (l : List Traffic). ServesAll (StepsInBytes (LoggedStep (ValidStep root))) fixed_reply (machine_on_stream (record { machine = journal.state; requests = journal.requests; failures = 0 }) port)
+            (machine_on_stream (record { machine = kept.next; requests = kept.accepted; failures = 0 }) port') l v.edits) (sym all) v.serves;
+        counted = carried_all served.stop count served.connections (port_traffic port') v.connections (with_listening_address port address) port' untold v.stop complete all v.count;
         all_redone = kept.redone;
-        took = took_all output.taken output'.taken (text kept.accepted ++ []) none_taken kept.written ∙ append-nil (text kept.accepted);
+        took = took_all output.taken output'.taken (journal_text kept.accepted ++ []) none_taken kept.written ∙ append-nil (journal_text kept.accepted);
         told = v.kept;
       }
 
-  by_command : (command : Option Command) (old new : RunState W) → old.port.port.begun ≡ none_begun → old.input.inward.given ≡ [] → old.output.taken ≡ [] → new.port.port.to_come ≡ None
-      → Runs Keeps command Done old new → IsDone Keeps command old new
+  by_command : (command : Option Command) (old new : RunState W) → old.port.port.begun ≡ no_connections → old.input.inward.given ≡ [] → old.output.taken ≡ [] → new.port.port.to_come ≡ None
+      → RunsCommand Keeps command Done old new → DoesCommand Keeps command old new
   by_command None old new none_yet none_given none_taken untold r = ⊎_elim never_usage never_out r.0
   by_command (Some (Replay root)) old new none_yet none_given none_taken untold r = input_done root old new none_given none_taken r.0
-  by_command (Some (Serve address root count)) old new none_yet none_given none_taken untold r = port_done (service address root count) old new none_yet none_taken untold r.0
-  by_command (Some (Keep address root count)) old new none_yet none_given none_taken untold r = kept_done (service address root count) old new none_yet none_given none_taken untold r.0
+  by_command (Some (Serve address root count)) old new none_yet none_given none_taken untold r = port_done (service_arguments address root count) old new none_yet none_taken untold r.0
+  by_command (Some (Keep address root count)) old new none_yet none_given none_taken untold r = kept_done (service_arguments address root count) old new none_yet none_given none_taken untold r.0
   by_command (Some (Check usage)) old new none_yet none_given none_taken untold r =
       let judged = r.0.0 in (
-        subst (λ (text : List ℕ). TextVerdict usage text Done) (sym (took_all old.input.inward.given new.input.inward.given judged.0 none_given judged.1.gave.consumed.behind)) judged.2,
+        subst (λ (journal_text : List ℕ). IsTextVerdict usage journal_text Done) (sym (took_all old.input.inward.given new.input.inward.given judged.0 none_given judged.1.gave.consumed.behind)) judged.2,
         took_all old.output.taken new.output.taken (codes "valid\n") none_taken r.0.1.taken,
         r.3,
       )
@@ -231,8 +231,8 @@ module _ {W : Type 0} (Keeps : List Edit → W → W → Type 0) where
   state_of port peer input output w = record { port = port; peer = peer; input = input; output = output; watchers = w }
 
   -- a run that returned 0
-  pub done_by : (command : Option Command) (exit : Exit) (port port' peer peer' input input' output output' : StreamState) (w w' : W) → port.port.begun ≡ none_begun → input.inward.given ≡ [] → output.taken ≡ [] → port'.port.to_come ≡ None
-      → status_of exit ≡ 0 → Runs Keeps command exit (state_of port peer input output w) (state_of port' peer' input' output' w') → IsDone Keeps command (state_of port peer input output w) (state_of port' peer' input' output' w')
+  pub done_by : (command : Option Command) (exit : Exit) (port port' peer peer' input input' output output' : StreamState) (w w' : W) → port.port.begun ≡ no_connections → input.inward.given ≡ [] → output.taken ≡ [] → port'.port.to_come ≡ None
+      → status_of exit ≡ 0 → RunsCommand Keeps command exit (state_of port peer input output w) (state_of port' peer' input' output' w') → DoesCommand Keeps command (state_of port peer input output w) (state_of port' peer' input' output' w')
   done_by command exit port port' peer peer' input input' output output' w w' none_yet none_given none_taken untold zero r =
       by_command command (state_of port peer input output w) (state_of port' peer' input' output' w') none_yet none_given none_taken untold
-      (subst (λ (x : Exit). Runs Keeps command x (state_of port peer input output w) (state_of port' peer' input' output' w')) (is_done exit zero) r)
+      (subst (λ (x : Exit). RunsCommand Keeps command x (state_of port peer input output w) (state_of port' peer' input' output' w')) (is_done exit zero) r)

@@ -1,17 +1,17 @@
 -- A server that records statuses follows the machine that records them.
 use Rattle.std.proofs.Common.{ℕ, List, [], ◌∷◌, ◌++◌, Option, refl, sym, ap, subst, ◌∙◌, arith}
 use Rattle.http_wire.specs.declared.request.Request.{Request}
-use Rattle.http_serve.specs.ReplyBytes.{InBytes}
+use Rattle.http_serve.specs.ReplyBytes.{StepsInBytes}
 use Rattle.edit_ops.specs.declared.edit.Edit.{Edit}
 use Rattle.store_core.proofs.KeptAfter.{kept-first}
 use Rattle.xcap_machine.specs.Machine.{ValidStep}
-use Rattle.xcap_app.specs.StatusRecorders.{Noted, NotedStep, none_noted}
+use Rattle.xcap_app.specs.StatusRecorders.{RecordedState, RecordedStep, initial_recorded_state}
 use Rattle.xcap_app.specs.SampleRequests.{root_text}
-use Rattle.xcap_app.specs.inner.RecorderSteps.{AnswersNoting, NotingState, RepresentsRecorded, is_new}
+use Rattle.xcap_app.specs.inner.RecorderSteps.{AnswersRecording, RecorderState, RepresentsRecorded, new_recorder_state}
 
 -- one step
-pub noted_step : (root : List ℕ) (s s' : NotingState) (m : Noted) (request : Request) (bytes : List ℕ) (edit : Option Edit) → RepresentsRecorded root s m → InBytes AnswersNoting s request bytes s' edit
-    → (m' : Noted) × RepresentsRecorded root s' m' × InBytes (NotedStep root) m request bytes m' edit
+pub noted_step : (root : List ℕ) (s s' : RecorderState) (m : RecordedState) (request : Request) (bytes : List ℕ) (edit : Option Edit) → RepresentsRecorded root s m → StepsInBytes AnswersRecording s request bytes s' edit
+    → (m' : RecordedState) × RepresentsRecorded root s' m' × StepsInBytes (RecordedStep root) m request bytes m' edit
 noted_step root s s' m request bytes edit here a =
     let t = a.step.follows m.state here.kept here.stands in
     let statuses : List ℕ = m.statuses ++ a.reply.status ∷ [] in
@@ -27,5 +27,5 @@ noted_step root s s' m request bytes edit here a =
     )
 
 -- a new one represents the state without documents and replies
-pub new_stands : (room : ℕ) → RepresentsRecorded root_text (is_new room) none_noted
+pub new_stands : (room : ℕ) → RepresentsRecorded root_text (new_recorder_state room) initial_recorded_state
 new_stands room = record { same_root = refl; kept = kept-first 1 (omega arith); stands = refl; noted = refl }

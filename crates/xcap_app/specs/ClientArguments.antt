@@ -26,22 +26,23 @@ abbrev pub word_text : List ℕ → Option (List ℕ)
 word_text word = if is_word word then Some (chars word) else None
 
 -- USER, where `-` is none
-abbrev pub user_of : List ℕ → Option (List ℕ)
-user_of word = if bytes_eq word (codes "-") then None else Some (chars word)
+abbrev pub parse_user : List ℕ → Option (List ℕ)
+parse_user word = if bytes_eq word (codes "-") then None else Some (chars word)
 
 -- the scheme of a root, the text before its first colon (58), is `http`
 abbrev pub has_scheme_http : List ℕ → Bool
 has_scheme_http root = bytes_eq (front_before 58 (encode_utf8_all root)) (codes "http")
 
 -- ROOT, where its scheme is `http`
-abbrev pub http_root_of : List ℕ → Option (List ℕ)
-http_root_of word = option_and_then (λ r. if has_scheme_http r then Some r else None) (root_of word)
+abbrev pub parse_http_root : List ℕ → Option (List ℕ)
+parse_http_root word =
+    option_and_then (λ r. if has_scheme_http r then Some r else None) (root_of word)
 
 -- `USER ROOT`
-abbrev pub requester_of : List ℕ → List ℕ → Option Requester
-requester_of user root =
+abbrev pub parse_requester : List ℕ → List ℕ → Option Requester
+parse_requester user root =
     if is_word user
-    then option_map (λ r. record { user = user_of user; root = r }) (http_root_of root)
+    then option_map (λ r. record { user = parse_user user; root = r }) (parse_http_root root)
     else None
 
 -- a numeral of at most this number
@@ -50,28 +51,32 @@ numeral_up_to most word =
     option_and_then (λ n. if nat_le n most then Some n else None) (numeral_of word)
 
 -- `USER ROOT` and a word after them
-abbrev pub asked_of : List ℕ → List ℕ → List ℕ → Option (Requester × List ℕ)
-asked_of user root word =
-    option_and_then (λ w. option_map (λ requester. (requester, w)) (requester_of user root))
+abbrev pub parse_requester_and_word : List ℕ → List ℕ → List ℕ → Option (Requester × List ℕ)
+parse_requester_and_word user root word =
+    option_and_then (λ w. option_map (λ requester. (requester, w)) (parse_requester user root))
     (word_text word)
 
 -- `fetch USER ROOT PATH`
-abbrev pub fetch_of : List ℕ → List ℕ → List ℕ → Option Command
-fetch_of user root path = option_map (λ asked. Fetch asked.0 asked.1) (asked_of user root path)
+abbrev pub parse_fetch : List ℕ → List ℕ → List ℕ → Option Command
+parse_fetch user root path =
+    option_map (λ asked. Fetch asked.0 asked.1) (parse_requester_and_word user root path)
 
 -- `delete USER ROOT PATH`
-abbrev pub delete_of : List ℕ → List ℕ → List ℕ → Option Command
-delete_of user root path = option_map (λ asked. Delete asked.0 asked.1) (asked_of user root path)
+abbrev pub parse_delete : List ℕ → List ℕ → List ℕ → Option Command
+parse_delete user root path =
+    option_map (λ asked. Delete asked.0 asked.1) (parse_requester_and_word user root path)
 
 -- `put USER ROOT PATH TYPE`
-abbrev pub put_of : List ℕ → List ℕ → List ℕ → List ℕ → Option Command
-put_of user root path media =
-    option_and_then (λ m. option_map (λ asked. Put asked.0 asked.1 m) (asked_of user root path))
+abbrev pub parse_put : List ℕ → List ℕ → List ℕ → List ℕ → Option Command
+parse_put user root path media =
+    option_and_then
+    (λ m. option_map (λ asked. Put asked.0 asked.1 m) (parse_requester_and_word user root path))
     (word_text media)
 
 -- `follow USER ROOT DOCUMENT ROUNDS`, where ROUNDS is a numeral of at most `MAX_ROUNDS`
-abbrev pub follow_of : List ℕ → List ℕ → List ℕ → List ℕ → Option Command
-follow_of user root document rounds =
+abbrev pub parse_follow : List ℕ → List ℕ → List ℕ → List ℕ → Option Command
+parse_follow user root document rounds =
     option_and_then
-    (λ n. option_map (λ asked. Follow asked.0 asked.1 n) (asked_of user root document))
+    (λ n. option_map (λ asked. Follow asked.0 asked.1 n)
+    (parse_requester_and_word user root document))
     (numeral_up_to MAX_ROUNDS rounds)

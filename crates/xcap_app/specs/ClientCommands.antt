@@ -7,17 +7,18 @@ use Rattle.doc_names.specs.declared.doc_id.DocId.{DocId}
 use Rattle.doc_names.specs.declared.doc_id.Home.{Home}
 use Rattle.doc_names.specs.declared.doc_id.Home.TheVariants.{Global, User}
 use Rattle.xcap_uri.specs.Roots.{slash}
-use Rattle.xcap_uri.specs.Targets.{TargetResult}
+use Rattle.xcap_uri.specs.Targets.{IsTargetResult}
 use Rattle.xcap_uri.specs.declared.fault.UriFault.{UriFault}
 use Rattle.xcap_uri.specs.declared.target.Target.{Target}
 use Rattle.xcap_uri.specs.declared.target.Target.TheVariants.{Document}
-use Rattle.client_commands.specs.Endings.{CallStreams, CommandCall, MakesOneCall}
-use Rattle.client_commands.specs.Follows.{FollowOptions, Follows}
-use Rattle.client_commands.specs.Puts.{AsksNothing, PutOptions, PutStreams, Puts, call_streams}
+use Rattle.client_commands.specs.CommandEnds.{CallStreams, CommandCall, MakesOneCall}
+use Rattle.client_commands.specs.FollowCommand.{FollowOptions, FollowsDocument}
+use Rattle.client_commands.specs.PutCommand.{AsksNothing, PutOptions, PutStreams, PutsFromInput}
+use Rattle.client_commands.specs.PutCommand.{call_streams}
 use Rattle.client_commands.specs.declared.requester.Requester.{Requester}
 use Rattle.client_commands.specs.declared.command_end.CommandEnd.{CommandEnd}
 use Rattle.client_commands.specs.declared.command_end.CommandEnd.TheVariants as ends
-use Rattle.xcap_app.specs.Messages.{IsReportedAs}
+use Rattle.xcap_app.specs.ErrorMessages.{IsReportedAs}
 use Rattle.xcap_app.specs.declared.exit.Exit.{Exit}
 use Rattle.xcap_app.specs.declared.exit.Exit.TheVariants.{Done, Usage, InputFailed, OutputFailed}
 use Rattle.xcap_app.specs.declared.exit.Exit.TheVariants.{Refused, Client, OutOfMemory}
@@ -34,44 +35,44 @@ exit_of_client ends.OutOfMemory = OutOfMemory
 
 -- The command did what its end promises, and the exit reports that end, or that memory ran out for
 -- the message; or memory ran out before, and nothing was done.
-pub data RunsAs (Did : CommandEnd → Type 0) (Nothing : Type 0) (exit : Exit) : Type 0 where
+pub data ExitsAs (Did : CommandEnd → Type 0) (Nothing : Type 0) (exit : Exit) : Type 0 where
   ended_so : (ended : CommandEnd) → Did ended → IsReportedAs (exit_of_client ended) exit
-      → RunsAs Did Nothing exit
-  lacks_memory : Nothing → exit ≡ OutOfMemory → RunsAs Did Nothing exit
+      → ExitsAs Did Nothing exit
+  lacks_memory : Nothing → exit ≡ OutOfMemory → ExitsAs Did Nothing exit
 
 -- `fetch` or `delete`, which makes this call
 abbrev pub RunsCall : CommandCall → Exit → CallStreams → CallStreams → Type 0
 RunsCall call exit old new =
-    RunsAs (λ ended. MakesOneCall call ended old new) (AsksNothing old new) exit
+    ExitsAs (λ ended. MakesOneCall call ended old new) (AsksNothing old new) exit
 
 -- `put`
 abbrev pub RunsPut : PutOptions → Exit → PutStreams → PutStreams → Type 0
 RunsPut options exit old new =
-    RunsAs (λ ended. Puts options ended old new)
+    ExitsAs (λ ended. PutsFromInput options ended old new)
     ((new.input ≡ old.input) × AsksNothing (call_streams old) (call_streams new)) exit
 
 -- ---- the document of `follow`
 
-abbrev pub is_users : Home → Bool
-is_users Global = false
-is_users (User xui) = true
+abbrev pub is_user_home : Home → Bool
+is_user_home Global = false
+is_user_home (User xui) = true
 
 -- the document of a target, where it can be followed: one under `users` of a usage whose documents
 -- are stored
 abbrev pub document_to_follow : Target → Option DocId
 document_to_follow (Document doc) =
-    if is_some (usage_of doc.auid) && is_users doc.home then Some doc else None
+    if is_some (usage_of doc.auid) && is_user_home doc.home then Some doc else None
 document_to_follow _ = None
 
-abbrev pub document_if_read : Result Target UriFault → Option DocId
-document_if_read (Ok target) = document_to_follow target
-document_if_read (Err fault) = None
+abbrev pub document_of_result : Result Target UriFault → Option DocId
+document_of_result (Ok target) = document_to_follow target
+document_of_result (Err fault) = None
 
 -- a target means this document under a root, or none that can be followed
 pub record MeansDocument (root target : List ℕ) (doc : Option DocId) : Type 0 where
   pub answer : Result Target UriFault
-  pub by_rules : TargetResult root (encode_utf8_all target) answer
-  pub is : doc ≡ document_if_read answer
+  pub by_rules : IsTargetResult root (encode_utf8_all target) answer
+  pub is : doc ≡ document_of_result answer
 
 -- The arguments of `follow`: who asks, the document as the text after the root and a slash, and for
 -- how many rounds.
@@ -81,8 +82,8 @@ pub record FollowArguments : Type 0 where
   pub rounds : ℕ
 
 -- the text means this document, or none that can be followed
-abbrev pub Names : FollowArguments → Option DocId → Type 0
-Names arguments doc =
+abbrev pub NamesDocument : FollowArguments → Option DocId → Type 0
+NamesDocument arguments doc =
     MeansDocument arguments.requester.root
     (arguments.requester.root ++ slash ∷ arguments.document) doc
 
@@ -95,10 +96,10 @@ follow_options arguments doc =
 -- or memory ran out before that was known.
 pub data RunsFollow (arguments : FollowArguments) (exit : Exit)
     (old new : CallStreams) : Type 0 where
-  follows : (doc : DocId) → Names arguments (Some doc)
-      → RunsAs (λ ended. Follows (follow_options arguments doc) ended old new)
+  follows : (doc : DocId) → NamesDocument arguments (Some doc)
+      → ExitsAs (λ ended. FollowsDocument (follow_options arguments doc) ended old new)
       (AsksNothing old new) exit
       → RunsFollow arguments exit old new
-  means_none : Names arguments None → exit ≡ Usage → AsksNothing old new
+  means_none : NamesDocument arguments None → exit ≡ Usage → AsksNothing old new
       → RunsFollow arguments exit old new
   knows_nothing : exit ≡ OutOfMemory → AsksNothing old new → RunsFollow arguments exit old new

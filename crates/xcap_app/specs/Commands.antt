@@ -8,7 +8,8 @@ use Rattle.doc_names.specs.declared.doc_id.Auid.TheVariants as auids
 use Rattle.doc_names.specs.declared.usages.Usage.{Usage}
 use Rattle.doc_names.specs.declared.usages.Usage.TheVariants.{ResourceLists, RlsServices}
 use Rattle.xcap_uri.specs.Roots.{root_of}
-use Rattle.xcap_app.specs.ClientArguments.{delete_of, fetch_of, follow_of, numeral_up_to, put_of}
+use Rattle.xcap_app.specs.ClientArguments.{parse_delete, parse_fetch, parse_follow, numeral_up_to}
+use Rattle.xcap_app.specs.ClientArguments.{parse_put}
 use Rattle.xcap_app.specs.declared.command.Command.{Command}
 use Rattle.xcap_app.specs.declared.command.Command.TheVariants.{Replay, Serve, Keep, Check, Sample}
 use Rattle.xcap_app.specs.declared.arguments.ServiceOptions.{ServiceOptions}
@@ -23,17 +24,17 @@ usage_named word =
 
 -- `ADDR ROOT COUNT`: ADDR is any word of one or more octets, ROOT a root, and COUNT a numeral of
 -- at most `MAX_COUNT`
-abbrev pub service_spelled : List ℕ → List ℕ → List ℕ → Option ServiceOptions
-service_spelled [] root count = None
-service_spelled (c ∷ cs) root count =
+abbrev pub service_of_words : List ℕ → List ℕ → List ℕ → Option ServiceOptions
+service_of_words [] root count = None
+service_of_words (c ∷ cs) root count =
     option_and_then (λ r.
     option_map (λ n. record { address = chars (c ∷ cs); root = r; count = n })
     (numeral_up_to MAX_COUNT count))
     (root_of root)
 
 -- `replay ROOT`, `check AUID`, or `sample N`, where N is a numeral of at most `MAX_SAMPLE`
-unfoldable pub of_two : List ℕ → List ℕ → Option Command
-of_two name word =
+unfoldable pub parse_two_words : List ℕ → List ℕ → Option Command
+parse_two_words name word =
     if bytes_eq name (codes "replay") then option_map (λ r. Replay r) (root_of word)
     else if bytes_eq name (codes "check") then option_map (λ usage. Check usage) (usage_named word)
     else if bytes_eq name (codes "sample")
@@ -42,26 +43,26 @@ of_two name word =
 
 -- `serve ADDR ROOT COUNT`, `keep ADDR ROOT COUNT`, `fetch USER ROOT PATH` or `delete USER ROOT
 -- PATH`
-unfoldable pub of_four : List ℕ → List ℕ → List ℕ → List ℕ → Option Command
-of_four name first root last =
+unfoldable pub parse_four_words : List ℕ → List ℕ → List ℕ → List ℕ → Option Command
+parse_four_words name first root last =
     if bytes_eq name (codes "serve")
-    then option_map (λ s. Serve s.address s.root s.count) (service_spelled first root last)
+    then option_map (λ s. Serve s.address s.root s.count) (service_of_words first root last)
     else if bytes_eq name (codes "keep")
-    then option_map (λ s. Keep s.address s.root s.count) (service_spelled first root last)
-    else if bytes_eq name (codes "fetch") then fetch_of first root last
-    else if bytes_eq name (codes "delete") then delete_of first root last
+    then option_map (λ s. Keep s.address s.root s.count) (service_of_words first root last)
+    else if bytes_eq name (codes "fetch") then parse_fetch first root last
+    else if bytes_eq name (codes "delete") then parse_delete first root last
     else None
 
 -- `put USER ROOT PATH TYPE`, or `follow USER ROOT DOCUMENT ROUNDS`
-unfoldable pub of_five : List ℕ → List ℕ → List ℕ → List ℕ → List ℕ → Option Command
-of_five name user root path last =
-    if bytes_eq name (codes "put") then put_of user root path last
-    else if bytes_eq name (codes "follow") then follow_of user root path last
+unfoldable pub parse_five_words : List ℕ → List ℕ → List ℕ → List ℕ → List ℕ → Option Command
+parse_five_words name user root path last =
+    if bytes_eq name (codes "put") then parse_put user root path last
+    else if bytes_eq name (codes "follow") then parse_follow user root path last
     else None
 
 -- the command that words spell, if they spell one
-abbrev pub command_of : List (List ℕ) → Option Command
-command_of (name ∷ word ∷ []) = of_two name word
-command_of (name ∷ first ∷ root ∷ last ∷ []) = of_four name first root last
-command_of (name ∷ user ∷ root ∷ path ∷ last ∷ []) = of_five name user root path last
-command_of _ = None
+abbrev pub parse_command : List (List ℕ) → Option Command
+parse_command (name ∷ word ∷ []) = parse_two_words name word
+parse_command (name ∷ first ∷ root ∷ last ∷ []) = parse_four_words name first root last
+parse_command (name ∷ user ∷ root ∷ path ∷ last ∷ []) = parse_five_words name user root path last
+parse_command _ = None

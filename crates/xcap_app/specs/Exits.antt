@@ -1,9 +1,9 @@
 -- How a run of the program can end. The statuses and messages are the project's own.
 use Rattle.std.specs.Prelude.{ℕ, List, [], ◌++◌, codes, decimal, encode_utf8_all}
 use Rattle.xml_tree.specs.PathTexts.{path_text}
-use Rattle.usage_docs.specs.Keys.{word}
+use Rattle.usage_docs.specs.KeyAttributes.{attribute_name}
 use Rattle.usage_docs.specs.declared.validation.Fault.TheVariants.{Invalid, Unformed, Repeated}
-use Rattle.client_commands.specs.Words.{fault_words, status_of_fault}
+use Rattle.client_commands.specs.FaultMessages.{fault_message, status_of_fault}
 use Rattle.xcap_app.specs.declared.exit.Exit.{Exit}
 use Rattle.xcap_app.specs.declared.exit.Exit.TheVariants.{Done, Usage, InputFailed, OutputFailed}
 use Rattle.xcap_app.specs.declared.exit.Exit.TheVariants.{NetworkFailed, Refused, Client}
@@ -35,21 +35,22 @@ status_of OutOfMemory = 7
 
 -- why the input is no valid document, on one line; for an element that repeats a sibling's key its
 -- place as a positional selector, and the key
-abbrev pub refusal_words : Refusal → List ℕ
-refusal_words TooLarge = codes "too-large\n"
-refusal_words NotUtf8 = codes "not-utf-8\n"
-refusal_words (NotWellFormed place) = codes "not-well-formed " ++ (decimal place ++ codes "\n")
-refusal_words (Faulty Invalid) = codes "schema-validation-error\n"
-refusal_words (Faulty Unformed) = codes "constraint-failure\n"
-refusal_words (Faulty (Repeated clash)) =
+abbrev pub refusal_message : Refusal → List ℕ
+refusal_message TooLarge = codes "too-large\n"
+refusal_message NotUtf8 = codes "not-utf-8\n"
+refusal_message (NotWellFormed place) = codes "not-well-formed " ++ (decimal place ++ codes "\n")
+refusal_message (Faulty Invalid) = codes "schema-validation-error\n"
+refusal_message (Faulty Unformed) = codes "constraint-failure\n"
+refusal_message (Faulty (Repeated clash)) =
     codes "uniqueness-failure "
-    ++ (encode_utf8_all (path_text clash.path) ++ (codes "/@" ++ (word clash.key ++ codes "\n")))
+    ++ (encode_utf8_all (path_text clash.path)
+    ++ (codes "/@" ++ (attribute_name clash.key ++ codes "\n")))
 
 -- why the input is no journal, on one line
-abbrev pub journal_words : JournalRefusal → List ℕ
-journal_words (Damaged place) = codes "journal: damaged " ++ (decimal place ++ codes "\n")
-journal_words (RefusedAt number) = codes "journal: refused " ++ (decimal number ++ codes "\n")
-journal_words TooLong = codes "journal: too-long\n"
+abbrev pub journal_message : JournalRefusal → List ℕ
+journal_message (Damaged place) = codes "journal: damaged " ++ (decimal place ++ codes "\n")
+journal_message (RefusedAt number) = codes "journal: refused " ++ (decimal number ++ codes "\n")
+journal_message TooLong = codes "journal: too-long\n"
 
 -- the message on the stream for errors, on one line; none after success
 abbrev pub words_of : Exit → List ℕ
@@ -58,14 +59,14 @@ words_of Usage = usage_line
 words_of InputFailed = codes "input failed\n"
 words_of OutputFailed = codes "output failed\n"
 words_of NetworkFailed = codes "network failed\n"
-words_of (Refused refusal) = refusal_words refusal
-words_of (Client fault) = fault_words fault
-words_of (BadJournal refusal) = journal_words refusal
+words_of (Refused refusal) = refusal_message refusal
+words_of (Client fault) = fault_message fault
+words_of (BadJournal refusal) = journal_message refusal
 words_of OutOfMemory = codes "out of memory\n"
 
 -- the message allocates: the input was refused, or a call of the client failed
-abbrev pub IsRefused : Exit → Type 0
-IsRefused (Refused refusal) = Unit {0}
-IsRefused (Client fault) = Unit {0}
-IsRefused (BadJournal refusal) = Unit {0}
-IsRefused _ = ⊥
+abbrev pub HasAllocatedMessage : Exit → Type 0
+HasAllocatedMessage (Refused refusal) = Unit {0}
+HasAllocatedMessage (Client fault) = Unit {0}
+HasAllocatedMessage (BadJournal refusal) = Unit {0}
+HasAllocatedMessage _ = ⊥

@@ -4,34 +4,35 @@ use Rattle.std.specs.Prelude.{◌≡◌, ℕ, ◌+◌, ◌<◌, ◌≤◌, ◌�
 use Rattle.edit_ops.specs.declared.edit.Edit.{Edit}
 use Rattle.reply_text.specs.ReplyHeads.{SentReply}
 use Rattle.http_wire.specs.declared.request.Request.{Request}
-use Rattle.xcap_io.specs.Causes.{StreamState, Reads, CountRises}
-use Rattle.xcap_io.specs.Connections.{ListenFailed, listening_at}
-use Rattle.xcap_io.specs.StreamTraffic.{Gave, IsEnded, Took}
-use Rattle.edit_journal.specs.Journals.{AddsSome, IsFirstOf}
+use Rattle.xcap_io.specs.StreamStates.{StreamState, DiffersByReads, CountRises}
+use Rattle.xcap_io.specs.Connections.{ListenFailed, with_listening_address}
+use Rattle.xcap_io.specs.StreamTraffic.{GivesBytes, IsEnded, TakesBytes}
+use Rattle.edit_journal.specs.Journals.{AppendsPrefix, IsPrefixOf}
 use Rattle.edit_journal.specs.Records.{IsRecordable, record_of}
 use Rattle.edit_journal.specs.declared.limits.TheConstants.{MAX_JOURNAL_BYTES}
-use Rattle.edit_journal.specs.Texts.{BeginsWith, HasNoRecord, IsDamaged, IsRecordedRequest, IsTorn}
-use Rattle.edit_journal.specs.Texts.{Whole, text}
+use Rattle.edit_journal.specs.JournalTexts.{BeginsWithRecord, HasNoRecord, IsDamaged}
+use Rattle.edit_journal.specs.JournalTexts.{IsRecordedRequest, IsTorn}
+use Rattle.edit_journal.specs.JournalTexts.{HasCompleteRecords, journal_text}
 use Rattle.edit_journal.specs.declared.journal_restart.RestartFault.{RestartFault}
 use Rattle.edit_journal.specs.declared.journal_restart.RestartFault.TheVariants as faults
-use Rattle.http_serve.specs.Ports.{ServesPort}
-use Rattle.http_serve.specs.ReplyBytes.{InBytes}
+use Rattle.http_serve.specs.ServedPorts.{ServesPort}
+use Rattle.http_serve.specs.ReplyBytes.{StepsInBytes}
 use Rattle.http_serve.specs.declared.accept_loop.ServeSummary.{ServeSummary}
 use Rattle.http_serve.specs.declared.accept_loop.StopReason.TheVariants.{PortFailed}
 use Rattle.edit_journal.specs.LoggedMachines.{LoggedStep}
-use Rattle.edit_journal.specs.LoggedRequests.{Accepts}
-use Rattle.store_core.specs.Contents.{stock_of}
+use Rattle.edit_journal.specs.LoggedRequests.{AcceptsRequest}
+use Rattle.store_core.specs.Contents.{contents_of}
 use Rattle.store_core.specs.ValidStates.{IsValidState}
 use Rattle.store_core.specs.State.{State, first_state}
-use Rattle.xcap_machine.specs.Answers.{unchanged}
+use Rattle.xcap_machine.specs.Answers.{reply_only}
 use Rattle.xcap_machine.specs.Requests.{IsAnswer}
 use Rattle.xcap_machine.specs.Machine.{ValidStep}
-use Rattle.xcap_server.specs.ReplayedRequests.{Redoing}
-use Rattle.xcap_app.specs.Frames.{JustWritten}
-use Rattle.xcap_app.specs.RunStates.{IoStreams, KeepState, ServiceState, journals}
+use Rattle.xcap_server.specs.ReplayedRequests.{AcceptsRequests}
+use Rattle.xcap_app.specs.StreamFrames.{WritesOnly}
+use Rattle.xcap_app.specs.RunStates.{IoStreams, KeepState, ServiceState, keep_journals}
 use Rattle.xcap_app.specs.RunStates.{keep_service_state}
-use Rattle.xcap_app.specs.Serves.{IsComplete, ServiceArguments}
-use Rattle.xcap_app.specs.Messages.{IsReportedAs}
+use Rattle.xcap_app.specs.ServeCommand.{IsCompleteStop, ServiceArguments}
+use Rattle.xcap_app.specs.ErrorMessages.{IsReportedAs}
 use Rattle.xcap_app.specs.declared.exit.Exit.{Exit}
 use Rattle.xcap_app.specs.declared.exit.Exit.TheVariants.{Done, InputFailed, OutputFailed}
 use Rattle.xcap_app.specs.declared.exit.Exit.TheVariants.{NetworkFailed, BadJournal, OutOfMemory}
@@ -59,12 +60,12 @@ pub record OldJournal : Type 0 where
 -- root makes a change at each of the requests, which lead to the state.
 pub record ReadsRecords (root : List ℕ) (journal : OldJournal)
     (input input' : StreamState) : Type 0 where
-  pub given : Gave input.inward input'.inward journal.bytes
+  pub given : GivesBytes input.inward input'.inward journal.bytes
   pub told : All IsRecordedRequest journal.requests
-  pub split : take MAX_JOURNAL_BYTES journal.bytes ≡ text journal.requests ++ journal.rest
-  pub redone : Redoing root (first_state 1) journal.requests journal.state
+  pub split : take MAX_JOURNAL_BYTES journal.bytes ≡ journal_text journal.requests ++ journal.rest
+  pub redone : AcceptsRequests root (first_state 1) journal.requests journal.state
   pub kept : IsValidState journal.state
-  pub reads : Reads input input'
+  pub reads : DiffersByReads input input'
 
 -- All of the old journal was read. The requests are those whose records are whole in it, and its
 -- rest is torn.
@@ -73,7 +74,7 @@ pub record ReadsJournal (root : List ℕ) (journal : OldJournal)
   pub records : ReadsRecords root journal input input'
   pub short : length journal.bytes ≤ MAX_JOURNAL_BYTES
   pub ended : IsEnded input'.inward
-  pub whole : Whole journal.bytes journal.requests journal.rest
+  pub whole : HasCompleteRecords journal.bytes journal.requests journal.rest
   pub torn : IsTorn journal.rest
   pub no_fault : input'.read_faults ≡ input.read_faults
 
@@ -81,47 +82,47 @@ pub record ReadsJournal (root : List ℕ) (journal : OldJournal)
 -- records: all of them, except where the output failed or memory ran out.
 abbrev pub StopsReading : List ℕ → RestartFault → OldJournal → IoStreams → IoStreams → Type 0
 StopsReading root faults.ReadFailed journal old new =
-    Took old.output.taken new.output.taken (text journal.requests)
+    TakesBytes old.output.taken new.output.taken (journal_text journal.requests)
     × HasNoRecord journal.rest × IsTorn journal.rest
     × CountRises old.input.read_faults new.input.read_faults
 StopsReading root faults.AppendFailed journal old new =
     ((before : List Request) × (last : Request) × (journal.requests ≡ before ++ last ∷ [])
-    × AddsSome (old.output.taken ++ text before) new.output.taken (record_of last))
+    × AppendsPrefix (old.output.taken ++ journal_text before) new.output.taken (record_of last))
     × CountRises old.output.write_faults new.output.write_faults
 StopsReading root (faults.Damaged place) journal old new =
-    Took old.output.taken new.output.taken (text journal.requests)
-    × IsDamaged journal.rest × (place ≡ length (text journal.requests))
+    TakesBytes old.output.taken new.output.taken (journal_text journal.requests)
+    × IsDamaged journal.rest × (place ≡ length (journal_text journal.requests))
 StopsReading root (faults.Refused number) journal old new =
-    Took old.output.taken new.output.taken (text journal.requests)
+    TakesBytes old.output.taken new.output.taken (journal_text journal.requests)
     × (number ≡ length journal.requests + 1)
     × ((request : Request) × (more : List ℕ) × (reply : SentReply)
-    × BeginsWith journal.rest request more
-    × IsAnswer root (stock_of journal.state) request (unchanged reply))
+    × BeginsWithRecord journal.rest request more
+    × IsAnswer root (contents_of journal.state) request (reply_only reply))
 StopsReading root faults.TooLong journal old new =
-    Took old.output.taken new.output.taken (text journal.requests)
+    TakesBytes old.output.taken new.output.taken (journal_text journal.requests)
     × (MAX_JOURNAL_BYTES < length journal.bytes) × HasNoRecord journal.rest × IsTorn journal.rest
 StopsReading root faults.NoMemory journal old new =
     (before more : List Request) × (journal.requests ≡ before ++ more)
-    × Took old.output.taken new.output.taken (text before)
+    × TakesBytes old.output.taken new.output.taken (journal_text before)
 
 -- the old journal wasn't read to its end
-pub record DoesntReadJournal (root : List ℕ) (fault : RestartFault)
+pub record FailsToReadJournal (root : List ℕ) (fault : RestartFault)
     (old new : IoStreams) : Type 0 where
   pub journal : OldJournal
   pub records : ReadsRecords root journal old.input new.input
   pub stops : StopsReading root fault journal old new
-  pub just_written : JustWritten old.output new.output
+  pub just_written : WritesOnly old.output new.output
 
 -- How connections were served, the first bytes of a record that was begun but not completed in the
 -- new journal, and how many requests got the 500 since their record couldn't be written.
-pub record KeptSummary : Type 0 where
+pub record KeepSummary : Type 0 where
   pub served : ServeSummary
   pub rest : List ℕ
   pub failures : ℕ
 
 -- where all records were written
-abbrev pub none_failed : ServeSummary → KeptSummary
-none_failed served = record { served = served; rest = []; failures = 0 }
+abbrev pub summary_without_failures : ServeSummary → KeepSummary
+summary_without_failures served = record { served = served; rest = []; failures = 0 }
 
 -- W is the type of the watchers, and `Keeps` relates them before and after such changes.
 -- `IsWritten` says that these bytes were written to the new journal, and `HasFailed` that writing
@@ -133,12 +134,12 @@ module _ {W : Type 0} (Keeps : List Edit → W → W → Type 0)
   -- couldn't be written, which get the 500. All accepted requests lead to the last state. Their
   -- records were written, and after them at most some first bytes of the record of a request that
   -- would be accepted now.
-  pub record ServesKept (arguments : ServiceArguments) (kept : KeptSummary)
+  pub record ServesLoggedConnections (arguments : ServiceArguments) (kept : KeepSummary)
       (journal : OldJournal) (old new : ServiceState W) : Type 0 where
     pub accepted : List Request
     pub next : State
     pub valid : IsValidState next
-    pub serves : ServesPort (InBytes (LoggedStep (ValidStep arguments.root))) Keeps
+    pub serves : ServesPort (StepsInBytes (LoggedStep (ValidStep arguments.root))) Keeps
         (record { most = arguments.count; served = kept.served })
         (record {
           machine = record {
@@ -146,7 +147,7 @@ module _ {W : Type 0} (Keeps : List Edit → W → W → Type 0)
             requests = journal.requests;
             failures = 0;
           };
-          stream = listening_at old.port arguments.address;
+          stream = with_listening_address old.port arguments.address;
           watchers = old.watchers;
         })
         (record {
@@ -154,29 +155,31 @@ module _ {W : Type 0} (Keeps : List Edit → W → W → Type 0)
           stream = new.port;
           watchers = new.watchers;
         })
-    pub redone : Redoing arguments.root (first_state 1) accepted next
+    pub redone : AcceptsRequests arguments.root (first_state 1) accepted next
     pub told : All IsRecordedRequest accepted
-    pub written : IsWritten (text accepted ++ kept.rest)
+    pub written : IsWritten (journal_text accepted ++ kept.rest)
     pub behind : (kept.rest ≡ [])
         ⊎ ((request : Request) × IsRecordable request
-        × Accepts (ValidStep arguments.root) next request
-        × IsFirstOf kept.rest (record_of request))
+        × AcceptsRequest (ValidStep arguments.root) next request
+        × IsPrefixOf kept.rest (record_of request))
 
   -- After the old journal: all connections were served, and all records written; or writing
   -- failed; or the port didn't listen, or failed to begin a connection.
-  abbrev pub KeepsOn : ServiceArguments → Exit → OldJournal
+  abbrev pub EndsKeep : ServiceArguments → Exit → OldJournal
       → ServiceState W → ServiceState W → Type 0
-  KeepsOn arguments Done journal old new =
-      (served : ServeSummary) × ServesKept arguments (none_failed served) journal old new
-      × IsComplete served.stop
-  KeepsOn arguments OutputFailed journal old new =
-      (kept : KeptSummary) × ServesKept arguments kept journal old new × HasFailed
-  KeepsOn arguments NetworkFailed journal old new =
-      (ListenFailed old.port new.port × IsWritten (text journal.requests)
+  EndsKeep arguments Done journal old new =
+      (served : ServeSummary)
+      × ServesLoggedConnections arguments (summary_without_failures served) journal old new
+      × IsCompleteStop served.stop
+  EndsKeep arguments OutputFailed journal old new =
+      (kept : KeepSummary) × ServesLoggedConnections arguments kept journal old new × HasFailed
+  EndsKeep arguments NetworkFailed journal old new =
+      (ListenFailed old.port new.port × IsWritten (journal_text journal.requests)
       × (new.watchers ≡ old.watchers))
-      ⊎ ((served : ServeSummary) × ServesKept arguments (none_failed served) journal old new
+      ⊎ ((served : ServeSummary)
+      × ServesLoggedConnections arguments (summary_without_failures served) journal old new
       × (served.stop ≡ PortFailed))
-  KeepsOn arguments _ journal old new = ⊥
+  EndsKeep arguments _ journal old new = ⊥
 
 -- Memory ran out before anything was done; or the old journal wasn't read to its end, and no more
 -- was done; or it was, and the connections that came were served. The new journal is what the
@@ -185,12 +188,12 @@ pub data KeepsCommand {W : Type 0} (Keeps : List Edit → W → W → Type 0)
     (arguments : ServiceArguments) (exit : Exit) (old new : KeepState W) : Type 0 where
   no_server : exit ≡ OutOfMemory → new ≡ old → KeepsCommand Keeps arguments exit old new
   no_journal : (fault : RestartFault) → IsReportedAs (exit_of_restart fault) exit
-      → DoesntReadJournal arguments.root fault (journals old) (journals new)
+      → FailsToReadJournal arguments.root fault (keep_journals old) (keep_journals new)
       → new.port ≡ old.port → new.watchers ≡ old.watchers
       → KeepsCommand Keeps arguments exit old new
   keeps_on : (journal : OldJournal) → ReadsJournal arguments.root journal old.input new.input
-      → JustWritten old.output new.output
-      → KeepsOn Keeps (Took old.output.taken new.output.taken)
+      → WritesOnly old.output new.output
+      → EndsKeep Keeps (TakesBytes old.output.taken new.output.taken)
       (CountRises old.output.write_faults new.output.write_faults)
       arguments exit journal (keep_service_state old) (keep_service_state new)
       → KeepsCommand Keeps arguments exit old new

@@ -1,7 +1,7 @@
 -- What a run of the program uses, at one moment. The project's own.
-use Rattle.xcap_io.specs.Causes.{StreamState}
-use Rattle.client_commands.specs.Endings.{CallStreams}
-use Rattle.client_commands.specs.Puts.{PutStreams}
+use Rattle.xcap_io.specs.StreamStates.{StreamState}
+use Rattle.client_commands.specs.CommandEnds.{CallStreams}
+use Rattle.client_commands.specs.PutCommand.{PutStreams}
 
 -- The input and the output.
 pub record IoStreams : Type 0 where
@@ -48,8 +48,8 @@ abbrev pub keep_service_state : {W : Type 0} → KeepState W → ServiceState W
 keep_service_state state = record { port = state.port; watchers = state.watchers }
 
 -- the old journal and the new one
-abbrev pub journals : {W : Type 0} → KeepState W → IoStreams
-journals state = record { input = state.input; output = state.output }
+abbrev pub keep_journals : {W : Type 0} → KeepState W → IoStreams
+keep_journals state = record { input = state.input; output = state.output }
 
 -- the parts that the commands use: `replay`
 abbrev pub replay_part : {W : Type 0} → RunState W → ReplayState W

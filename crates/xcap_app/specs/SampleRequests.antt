@@ -59,8 +59,8 @@ delete_bytes user path =
 
 -- A user's request of a round. In round 0 the document is put. In each third round after it the
 -- entry of the round before is deleted, and in each other round the entry of the round is put.
-abbrev pub bytes_in_round : List ℕ → ℕ → List ℕ
-bytes_in_round user round =
+abbrev pub round_request : List ℕ → ℕ → List ℕ
+round_request user round =
     if round == 0
     then put_bytes user (document_path user) (codes "application/resource-lists+xml") document_body
     else if round % 3 == 0
@@ -70,7 +70,7 @@ bytes_in_round user round =
 
 -- The request with a number, counted from 0: a hundred users make one request each in every round.
 abbrev pub numbered_request : ℕ → List ℕ
-numbered_request number = bytes_in_round (user_name (number % 100)) (number / 100)
+numbered_request number = round_request (user_name (number % 100)) (number / 100)
 
 -- ---- connections
 

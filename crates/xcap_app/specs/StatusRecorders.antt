@@ -7,16 +7,16 @@ use Rattle.store_core.specs.State.{State, first_state}
 use Rattle.xcap_machine.specs.Machine.{ValidStep}
 
 -- a state, and the statuses so far, in order
-pub record Noted : Type 0 where
+pub record RecordedState : Type 0 where
   pub state : State
   pub statuses : List ℕ
 
 -- the state without documents, and no reply yet
-abbrev pub none_noted : Noted
-none_noted = record { state = first_state 1; statuses = [] }
+abbrev pub initial_recorded_state : RecordedState
+initial_recorded_state = record { state = first_state 1; statuses = [] }
 
 -- A step of the machine, whose reply's status is appended to the others.
-pub record NotedStep (root : List ℕ) (m : Noted) (request : Request) (reply : SentReply)
-    (next : Noted) (edit : Option Edit) : Type 0 where
+pub record RecordedStep (root : List ℕ) (m : RecordedState) (request : Request) (reply : SentReply)
+    (next : RecordedState) (edit : Option Edit) : Type 0 where
   pub step : ValidStep root m.state request reply next.state edit
   pub notes : next.statuses ≡ m.statuses ++ reply.status ∷ []

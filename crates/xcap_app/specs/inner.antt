@@ -1,7 +1,7 @@
 -- What private functions and proofs use. No clause of a public call needs it.
-pub mod Exits
+pub mod CommandOutputs
+pub mod ConnectionExits
+pub mod JournalOutputs
 pub mod KnownPorts
-pub mod Messages
+pub mod MessageBytes
 pub mod RecorderSteps
-pub mod Replays
-pub mod Streams

@@ -2,24 +2,25 @@
 ghost use Rattle.std.specs.Prelude.{◌≡◌, IfOk, map, option_map, string_bytes};
 ghost use Rattle.xcap_uri.specs.Roots.{root_of};
 ghost use Rattle.xcap_app.specs.ClientArguments.{numeral_up_to};
-ghost use Rattle.xcap_app.specs.Commands.{command_of, of_five, of_four, of_two, service_spelled};
+ghost use Rattle.xcap_app.specs.Commands.{parse_command, parse_five_words, parse_four_words};
+ghost use Rattle.xcap_app.specs.Commands.{parse_two_words, service_of_words};
 ghost use Rattle.xcap_app.specs.Commands.{usage_named};
 
-use crate::client_arguments::{delete_of, fetch_of, follow_of, put_of};
+use crate::client_arguments::{parse_delete, parse_fetch, parse_follow, parse_put};
 use crate::command::Command;
 use doc_names::Usage;
 use std::alloc::{AllocError, Global};
-use xcap_uri::{Root, numeral, read_root};
+use xcap_uri::{Root, parse_numeral, read_root};
 use xml_names::Text;
 
 const MAX_COUNT: u64 = 1_000_000;
 
 // The COUNT of a word.
 #[tactic(auto, unfolding(crate::specs::ClientArguments::numeral_up_to))]
-fn count_of(word: &str) -> Option<u32>
+fn parse_count(word: &str) -> Option<u32>
     ensures exact { result ≡ numeral_up_to MAX_COUNT word.now }
 {
-    let number = numeral(word.as_bytes())?;
+    let number = parse_numeral(word.as_bytes())?;
     if number > MAX_COUNT {
         return None;
     }
@@ -30,10 +31,10 @@ const MAX_SAMPLE: u64 = 100_000;
 
 // The N of a word.
 #[tactic(auto, unfolding(crate::specs::ClientArguments::numeral_up_to))]
-fn requests_of(word: &str) -> Option<u32>
+fn parse_sample_size(word: &str) -> Option<u32>
     ensures reads_rule { result ≡ numeral_up_to MAX_SAMPLE word.now }
 {
-    let number = numeral(word.as_bytes())?;
+    let number = parse_numeral(word.as_bytes())?;
     if number > MAX_SAMPLE {
         return None;
     }
@@ -42,7 +43,7 @@ fn requests_of(word: &str) -> Option<u32>
 
 // The usage that a word names.
 #[tactic(auto, unfolding(crate::specs::Commands::usage_named))]
-fn usage_of(word: &str) -> Option<Usage>
+fn parse_usage(word: &str) -> Option<Usage>
     ensures exact { result ≡ usage_named word.now }
 {
     if word == "resource-lists" {
@@ -55,7 +56,7 @@ fn usage_of(word: &str) -> Option<Usage>
 }
 
 // The command `replay` with one word.
-fn replay_of(alloc: Global, root: &str) -> Result<Option<Command>, AllocError>
+fn parse_replay(alloc: Global, root: &str) -> Result<Option<Command>, AllocError>
     ensures ok { IfOk result
         (λ command. command ≡ option_map (λ r. Command.Replay r) (root_of root.now)) }
 {
@@ -66,19 +67,19 @@ fn replay_of(alloc: Global, root: &str) -> Result<Option<Command>, AllocError>
 }
 
 // The command `check` with one word.
-fn check_of(word: &str) -> Option<Command>
+fn parse_check(word: &str) -> Option<Command>
     ensures exact { result ≡ option_map (λ usage. Command.Check usage) (usage_named word.now) }
 {
-    let usage = usage_of(word)?;
+    let usage = parse_usage(word)?;
     Some(Command::Check { usage })
 }
 
 // The command `sample` with one word.
-fn sample_of(word: &str) -> Option<Command>
+fn parse_sample(word: &str) -> Option<Command>
     ensures exact { result
         ≡ option_map (λ n. Command.Sample n) (numeral_up_to MAX_SAMPLE word.now) }
 {
-    let requests = requests_of(word)?;
+    let requests = parse_sample_size(word)?;
     Some(Command::Sample { requests })
 }
 
@@ -91,18 +92,19 @@ struct ServiceOptions {
 }
 
 // The options of a service in three words. The first may be any but an empty one.
-fn service_of(
+fn parse_service(
     alloc: Global,
     address: &str,
     root: &str,
     count: &str,
 ) -> Result<Option<ServiceOptions>, AllocError>
-    ensures ok { IfOk result (λ service. service ≡ service_spelled address.now root.now count.now) }
+    ensures ok { IfOk result
+        (λ service. service ≡ service_of_words address.now root.now count.now) }
 {
     if address.is_empty() {
         return Ok(None);
     }
-    let Some(count) = count_of(count) else {
+    let Some(count) = parse_count(count) else {
         return Ok(None);
     };
     let Some(root) = read_root(alloc, root)? else {
@@ -117,7 +119,7 @@ fn service_of(
 }
 
 // The command `serve` with three words.
-fn serve_of(
+fn parse_serve(
     alloc: Global,
     address: &str,
     root: &str,
@@ -125,9 +127,9 @@ fn serve_of(
 ) -> Result<Option<Command>, AllocError>
     ensures ok { IfOk result
         (λ command. command ≡ option_map (λ s. Command.Serve s.address s.root s.count)
-        (service_spelled address.now root.now count.now)) }
+        (service_of_words address.now root.now count.now)) }
 {
-    match service_of(alloc, address, root, count)? {
+    match parse_service(alloc, address, root, count)? {
         Some(
             ServiceOptions {
                 address,
@@ -144,7 +146,7 @@ fn serve_of(
 }
 
 // The command `keep` with three words.
-fn keep_of(
+fn parse_keep(
     alloc: Global,
     address: &str,
     root: &str,
@@ -152,9 +154,9 @@ fn keep_of(
 ) -> Result<Option<Command>, AllocError>
     ensures ok { IfOk result
         (λ command. command ≡ option_map (λ s. Command.Keep s.address s.root s.count)
-        (service_spelled address.now root.now count.now)) }
+        (service_of_words address.now root.now count.now)) }
 {
-    match service_of(alloc, address, root, count)? {
+    match parse_service(alloc, address, root, count)? {
         Some(
             ServiceOptions {
                 address,
@@ -171,25 +173,25 @@ fn keep_of(
 }
 
 // The command of two words.
-#[tactic(auto, unfolding(crate::specs::Commands::of_two))]
-fn of_two(alloc: Global, name: &str, word: &str) -> Result<Option<Command>, AllocError>
-    ensures reads_two_words { IfOk result (λ command. command ≡ of_two name.now word.now) }
+#[tactic(auto, unfolding(crate::specs::Commands::parse_two_words))]
+fn parse_two_words(alloc: Global, name: &str, word: &str) -> Result<Option<Command>, AllocError>
+    ensures reads_two_words { IfOk result (λ command. command ≡ parse_two_words name.now word.now) }
 {
     if name == "replay" {
-        return replay_of(alloc, word);
+        return parse_replay(alloc, word);
     }
     if name == "check" {
-        return Ok(check_of(word));
+        return Ok(parse_check(word));
     }
     if name == "sample" {
-        return Ok(sample_of(word));
+        return Ok(parse_sample(word));
     }
     Ok(None)
 }
 
 // The command of four words.
-#[tactic(auto, unfolding(crate::specs::Commands::of_four))]
-fn of_four(
+#[tactic(auto, unfolding(crate::specs::Commands::parse_four_words))]
+fn parse_four_words(
     alloc: Global,
     name: &str,
     first: &str,
@@ -197,26 +199,26 @@ fn of_four(
     last: &str,
 ) -> Result<Option<Command>, AllocError>
     ensures reads_four_words { IfOk result
-        (λ command. command ≡ of_four name.now first.now root.now last.now) }
+        (λ command. command ≡ parse_four_words name.now first.now root.now last.now) }
 {
     if name == "serve" {
-        return serve_of(alloc, first, root, last);
+        return parse_serve(alloc, first, root, last);
     }
     if name == "keep" {
-        return keep_of(alloc, first, root, last);
+        return parse_keep(alloc, first, root, last);
     }
     if name == "fetch" {
-        return fetch_of(alloc, first, root, last);
+        return parse_fetch(alloc, first, root, last);
     }
     if name == "delete" {
-        return delete_of(alloc, first, root, last);
+        return parse_delete(alloc, first, root, last);
     }
     Ok(None)
 }
 
 // The command of five words.
-#[tactic(auto, unfolding(crate::specs::Commands::of_five))]
-fn of_five(
+#[tactic(auto, unfolding(crate::specs::Commands::parse_five_words))]
+fn parse_five_words(
     alloc: Global,
     name: &str,
     user: &str,
@@ -225,13 +227,13 @@ fn of_five(
     last: &str,
 ) -> Result<Option<Command>, AllocError>
     ensures reads_five_words { IfOk result
-        (λ command. command ≡ of_five name.now user.now root.now path.now last.now) }
+        (λ command. command ≡ parse_five_words name.now user.now root.now path.now last.now) }
 {
     if name == "put" {
-        return put_of(alloc, user, root, path, last);
+        return parse_put(alloc, user, root, path, last);
     }
     if name == "follow" {
-        return follow_of(alloc, user, root, path, last);
+        return parse_follow(alloc, user, root, path, last);
     }
     Ok(None)
 }
@@ -240,19 +242,19 @@ fn of_five(
 ///
 /// # Errors
 /// `NoMemory` when out of memory.
-pub(crate) fn command_of(alloc: Global, words: &[String]) -> Result<Option<Command>, AllocError>
-    ensures ok { IfOk result (λ command. command ≡ command_of (map string_bytes words.now)) }
+pub(crate) fn parse_command(alloc: Global, words: &[String]) -> Result<Option<Command>, AllocError>
+    ensures ok { IfOk result (λ command. command ≡ parse_command (map string_bytes words.now)) }
 {
     match words {
-        [name, word] => of_two(alloc, name.as_str(), word.as_str()),
-        [name, first, root, last] => of_four(
+        [name, word] => parse_two_words(alloc, name.as_str(), word.as_str()),
+        [name, first, root, last] => parse_four_words(
             alloc,
             name.as_str(),
             first.as_str(),
             root.as_str(),
             last.as_str(),
         ),
-        [name, user, root, path, last] => of_five(
+        [name, user, root, path, last] => parse_five_words(
             alloc,
             name.as_str(),
             user.as_str(),

@@ -1,10 +1,10 @@
 // The command `check`: the input as a document of a usage.
-ghost use Rattle.xcap_app.specs.Checks.{Checks, Examines};
+ghost use Rattle.xcap_app.specs.CheckCommand.{ChecksCommand, ExaminesInput};
 
 use crate::check_verdict::judge_text;
 use crate::exit::Exit;
+use crate::messages::print;
 use crate::refusal::Refusal;
-use crate::report::print;
 use client_commands::{InputFault, read_text};
 use doc_names::Usage;
 use std::alloc::Global;
@@ -12,8 +12,8 @@ use store_core::MAX_DOCUMENT_BYTES;
 use xcap_io::{Line, Sink, Source};
 
 // Reads the input as a document, and returns the verdict.
-fn examine<I: Source>(alloc: Global, usage: Usage, input: &mut I) -> Exit
-    ensures examines_input { Examines usage result (I.state input.old) (I.state input.new) }
+fn examine_input<I: Source>(alloc: Global, usage: Usage, input: &mut I) -> Exit
+    ensures examines_input { ExaminesInput usage result (I.state input.old) (I.state input.new) }
 {
     match read_text(alloc, input, MAX_DOCUMENT_BYTES) {
         Ok(text) => judge_text(alloc, usage, &text),
@@ -31,11 +31,11 @@ pub(crate) fn check<I: Source, O: Sink>(
     input: &mut I,
     output: &mut O,
 ) -> Exit
-    ensures checks_input { Checks usage result
+    ensures checks_input { ChecksCommand usage result
         (record { input = I.state input.old; output = O.state output.old })
         (record { input = I.state input.new; output = O.state output.new }) }
 {
-    match examine(alloc, usage, input) {
+    match examine_input(alloc, usage, input) {
         Exit::Done => print(output, b"valid\n"),
         exit => exit,
     }

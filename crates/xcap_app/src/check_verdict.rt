@@ -1,8 +1,8 @@
 // Whether a text is a document of a usage, and why it isn't.
 ghost use Rattle.std.specs.Prelude.{◌≡◌, ◌≤◌, ◌⊎◌, Ok};
 ghost use Rattle.xml_tree.specs.Tree.{height};
-ghost use Rattle.xcap_app.specs.Verdicts.{AnswerVerdict, TextVerdict, exit_of_judgement};
-ghost use Rattle.xcap_app.specs.Verdicts.{refusal_of_text};
+ghost use Rattle.xcap_app.specs.TextVerdicts.{IsTreeVerdict, IsTextVerdict, exit_of_judgement};
+ghost use Rattle.xcap_app.specs.TextVerdicts.{refusal_of_text};
 
 use crate::exit::Exit;
 use crate::refusal::Refusal;
@@ -14,7 +14,7 @@ use xml_names::{MAX_LEVELS, ReadError};
 use xml_tree::Element;
 
 // How the command ends with the first fault of a tree, or none.
-fn exit_of(judged: Option<Fault>) -> Exit
+fn exit_after_check(judged: Option<Fault>) -> Exit
     ensures exact { result ≡ exit_of_judgement judged }
 {
     match judged {
@@ -26,10 +26,10 @@ fn exit_of(judged: Option<Fault>) -> Exit
 // The verdict on a text that is parsed as this tree.
 fn judge_tree(alloc: Global, usage: Usage, root: &Element) -> Exit
     requires { height root.now ≤ MAX_LEVELS }
-    ensures has_first_fault { AnswerVerdict usage (Ok root.now) result }
+    ensures has_first_fault { IsTreeVerdict usage (Ok root.now) result }
 {
     let fault = usage_docs::first_fault(alloc, usage, root);
-    exit_of(fault)
+    exit_after_check(fault)
 }
 
 // The verdict on a text that can't be parsed.
@@ -49,7 +49,7 @@ fn judge_fault(fault: TextFault) -> Exit
 /// `Done` where the text is a document of the usage, and else why it isn't, or that memory ran
 /// out.
 pub(crate) fn judge_text(alloc: Global, usage: Usage, text: &[u8]) -> Exit
-    ensures judges_text { TextVerdict usage text.now result ⊎ (result ≡ Exit.OutOfMemory) }
+    ensures judges_text { IsTextVerdict usage text.now result ⊎ (result ≡ Exit.OutOfMemory) }
 {
     match read_document(alloc, text, MAX_LEVELS) {
         Ok(root) => judge_tree(alloc, usage, &root),

@@ -3,15 +3,16 @@ ghost use Rattle.std.specs.Prelude.{◌≡◌, IfOk, codes};
 ghost use Rattle.std.specs.List.{list_all};
 ghost use Rattle.std.specs.Str.{bytes_eq};
 ghost use Rattle.xcap_uri.specs.Delimiters.{front_before};
-ghost use Rattle.xcap_app.specs.ClientArguments.{asked_of, requester_of, delete_of, fetch_of};
-ghost use Rattle.xcap_app.specs.ClientArguments.{follow_of, has_scheme_http, http_root_of};
-ghost use Rattle.xcap_app.specs.ClientArguments.{is_word_octet, is_word, numeral_up_to, put_of};
-ghost use Rattle.xcap_app.specs.ClientArguments.{word_text, user_of};
+ghost use Rattle.xcap_app.specs.ClientArguments.{parse_requester_and_word, parse_requester};
+ghost use Rattle.xcap_app.specs.ClientArguments.{parse_delete, parse_fetch};
+ghost use Rattle.xcap_app.specs.ClientArguments.{parse_follow, has_scheme_http, parse_http_root};
+ghost use Rattle.xcap_app.specs.ClientArguments.{is_word_octet, is_word, numeral_up_to, parse_put};
+ghost use Rattle.xcap_app.specs.ClientArguments.{word_text, parse_user};
 
 use crate::command::Command;
 use client_commands::Requester;
 use std::alloc::{AllocError, Global};
-use xcap_uri::{Root, cut, numeral, read_root};
+use xcap_uri::{Root, cut, parse_numeral, read_root};
 use xml_names::Text;
 
 const MAX_ROUNDS: u64 = 1_000;
@@ -22,7 +23,7 @@ fn is_word_octet(octet: u8) -> bool
     octet >= 0x21 && octet <= 0x7e
 }
 
-fn are_visible(octets: &[u8]) -> bool
+fn are_word_octets(octets: &[u8]) -> bool
     ensures ok { result ≡ list_all is_word_octet octets.now }
 {
     octets.iter().all(|octet| is_word_octet(*octet))
@@ -31,7 +32,7 @@ fn are_visible(octets: &[u8]) -> bool
 fn is_word(word: &str) -> bool
     ensures exact { result ≡ is_word word.now }
 {
-    !word.is_empty() && are_visible(word.as_bytes())
+    !word.is_empty() && are_word_octets(word.as_bytes())
 }
 
 // A word, as a text.
@@ -46,8 +47,8 @@ fn word_text(alloc: Global, word: &str) -> Result<Option<Text>, AllocError>
 }
 
 // The user that a word names, if it isn't a dash.
-fn user_of(alloc: Global, word: &str) -> Result<Option<Text>, AllocError>
-    ensures ok { IfOk result (λ user. user ≡ user_of word.now) }
+fn parse_user(alloc: Global, word: &str) -> Result<Option<Text>, AllocError>
+    ensures ok { IfOk result (λ user. user ≡ parse_user word.now) }
 {
     if word == "-" {
         return Ok(None);
@@ -71,8 +72,8 @@ fn has_scheme_http(root: &Root) -> bool
 }
 
 // The root of a word, if its scheme is `http`.
-fn http_root_of(alloc: Global, word: &str) -> Result<Option<Root>, AllocError>
-    ensures ok { IfOk result (λ root. root ≡ http_root_of word.now) }
+fn parse_http_root(alloc: Global, word: &str) -> Result<Option<Root>, AllocError>
+    ensures ok { IfOk result (λ root. root ≡ parse_http_root word.now) }
 {
     match read_root(alloc, word)? {
         Some(root) if has_scheme_http(&root) => Ok(Some(root)),
@@ -81,25 +82,25 @@ fn http_root_of(alloc: Global, word: &str) -> Result<Option<Root>, AllocError>
 }
 
 // The requester of USER and ROOT.
-fn requester_of(alloc: Global, user: &str, root: &str) -> Result<Option<Requester>, AllocError>
-    ensures ok { IfOk result (λ requester. requester ≡ requester_of user.now root.now) }
+fn parse_requester(alloc: Global, user: &str, root: &str) -> Result<Option<Requester>, AllocError>
+    ensures ok { IfOk result (λ requester. requester ≡ parse_requester user.now root.now) }
 {
     if !is_word(user) {
         return Ok(None);
     }
-    let Some(root) = http_root_of(alloc, root)? else {
+    let Some(root) = parse_http_root(alloc, root)? else {
         return Ok(None);
     };
-    let user = user_of(alloc, user)?;
+    let user = parse_user(alloc, user)?;
     Ok(Some(Requester { user, root }))
 }
 
 // The ROUNDS of a word.
 #[tactic(auto, unfolding(crate::specs::ClientArguments::numeral_up_to))]
-fn rounds_of(word: &str) -> Option<u64>
+fn parse_rounds(word: &str) -> Option<u64>
     ensures exact { result ≡ numeral_up_to MAX_ROUNDS word.now }
 {
-    let number = numeral(word.as_bytes())?;
+    let number = parse_numeral(word.as_bytes())?;
     if number > MAX_ROUNDS {
         return None;
     }
@@ -107,67 +108,68 @@ fn rounds_of(word: &str) -> Option<u64>
 }
 
 // The requester of USER and ROOT, and the text of the word after them.
-fn asked_of(
+fn parse_requester_and_word(
     alloc: Global,
     user: &str,
     root: &str,
     word: &str,
 ) -> Result<Option<(Requester, Text)>, AllocError>
-    ensures ok { IfOk result (λ asked. asked ≡ asked_of user.now root.now word.now) }
+    ensures ok { IfOk result
+        (λ asked. asked ≡ parse_requester_and_word user.now root.now word.now) }
 {
     let Some(word) = word_text(alloc, word)? else {
         return Ok(None);
     };
-    match requester_of(alloc, user, root)? {
+    match parse_requester(alloc, user, root)? {
         Some(requester) => Ok(Some((requester, word))),
         None => Ok(None),
     }
 }
 
 // The command `fetch` with three words.
-pub(crate) fn fetch_of(
+pub(crate) fn parse_fetch(
     alloc: Global,
     user: &str,
     root: &str,
     path: &str,
 ) -> Result<Option<Command>, AllocError>
-    ensures ok { IfOk result (λ command. command ≡ fetch_of user.now root.now path.now) }
+    ensures ok { IfOk result (λ command. command ≡ parse_fetch user.now root.now path.now) }
 {
-    match asked_of(alloc, user, root, path)? {
+    match parse_requester_and_word(alloc, user, root, path)? {
         Some((requester, path)) => Ok(Some(Command::Fetch { requester, path })),
         None => Ok(None),
     }
 }
 
 // The command `delete` with three words.
-pub(crate) fn delete_of(
+pub(crate) fn parse_delete(
     alloc: Global,
     user: &str,
     root: &str,
     path: &str,
 ) -> Result<Option<Command>, AllocError>
-    ensures ok { IfOk result (λ command. command ≡ delete_of user.now root.now path.now) }
+    ensures ok { IfOk result (λ command. command ≡ parse_delete user.now root.now path.now) }
 {
-    match asked_of(alloc, user, root, path)? {
+    match parse_requester_and_word(alloc, user, root, path)? {
         Some((requester, path)) => Ok(Some(Command::Delete { requester, path })),
         None => Ok(None),
     }
 }
 
 // The command `put` with four words.
-pub(crate) fn put_of(
+pub(crate) fn parse_put(
     alloc: Global,
     user: &str,
     root: &str,
     path: &str,
     media: &str,
 ) -> Result<Option<Command>, AllocError>
-    ensures ok { IfOk result (λ command. command ≡ put_of user.now root.now path.now media.now) }
+    ensures ok { IfOk result (λ command. command ≡ parse_put user.now root.now path.now media.now) }
 {
     let Some(media) = word_text(alloc, media)? else {
         return Ok(None);
     };
-    match asked_of(alloc, user, root, path)? {
+    match parse_requester_and_word(alloc, user, root, path)? {
         Some((requester, path)) => Ok(Some(Command::Put {
             requester,
             path,
@@ -178,7 +180,7 @@ pub(crate) fn put_of(
 }
 
 // The command `follow` with four words.
-pub(crate) fn follow_of(
+pub(crate) fn parse_follow(
     alloc: Global,
     user: &str,
     root: &str,
@@ -186,12 +188,12 @@ pub(crate) fn follow_of(
     rounds: &str,
 ) -> Result<Option<Command>, AllocError>
     ensures ok { IfOk result
-        (λ command. command ≡ follow_of user.now root.now document.now rounds.now) }
+        (λ command. command ≡ parse_follow user.now root.now document.now rounds.now) }
 {
-    let Some(rounds) = rounds_of(rounds) else {
+    let Some(rounds) = parse_rounds(rounds) else {
         return Ok(None);
     };
-    match asked_of(alloc, user, root, document)? {
+    match parse_requester_and_word(alloc, user, root, document)? {
         Some((requester, document)) => Ok(Some(Command::Follow {
             requester,
             document,

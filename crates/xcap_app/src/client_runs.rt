@@ -2,9 +2,9 @@
 ghost use Rattle.std.specs.Prelude.{◌≡◌, ◌∷◌, ◌++◌, ◌&&◌, IfOk, is_some, option_map};
 ghost use Rattle.doc_names.specs.Usages.{usage_of};
 ghost use Rattle.xcap_uri.specs.Roots.{slash};
-ghost use Rattle.client_commands.specs.Endings.{delete_call, fetch_call};
+ghost use Rattle.client_commands.specs.CommandEnds.{delete_call, fetch_call};
 ghost use Rattle.xcap_app.specs.ClientCommands.{MeansDocument, RunsCall, RunsFollow, RunsPut};
-ghost use Rattle.xcap_app.specs.ClientCommands.{document_to_follow, exit_of_client, is_users};
+ghost use Rattle.xcap_app.specs.ClientCommands.{document_to_follow, exit_of_client, is_user_home};
 
 use crate::exit::Exit;
 use crate::refusal::Refusal;
@@ -16,7 +16,7 @@ use xcap_uri::{Root, Target, read_target};
 use xml_names::{ReadError, Text};
 
 // How the run ends when a client command ends so.
-fn exit_of(ended: CommandEnd) -> Exit
+fn exit_after_call(ended: CommandEnd) -> Exit
     ensures exact { result ≡ exit_of_client ended }
 {
     match ended {
@@ -41,7 +41,7 @@ pub(crate) fn run_fetch<C: Peer, O: Sink>(
         (record { peer = C.state peer.old; output = O.state output.old })
         (record { peer = C.state peer.new; output = O.state output.new }) }
 {
-    exit_of(fetch_at(alloc, requester, path, peer, output))
+    exit_after_call(fetch_at(alloc, requester, path, peer, output))
 }
 
 /// Removes the resource at a path, and writes the status.
@@ -56,7 +56,7 @@ pub(crate) fn run_delete<C: Peer, O: Sink>(
         (record { peer = C.state peer.old; output = O.state output.old })
         (record { peer = C.state peer.new; output = O.state output.new }) }
 {
-    exit_of(delete_at(alloc, requester, path, peer, output))
+    exit_after_call(delete_at(alloc, requester, path, peer, output))
 }
 
 /// Puts the input at a path, and writes the status and the etag.
@@ -82,12 +82,12 @@ pub(crate) fn run_put<C: Peer, I: Source, O: Sink>(
           output = O.state output.new;
         }) }
 {
-    exit_of(put_at(alloc, requester, path, media, peer, input, output))
+    exit_after_call(put_at(alloc, requester, path, media, peer, input, output))
 }
 
 // Whether a home is a user's.
-fn is_users(home: &Home) -> bool
-    ensures ok { result ≡ is_users home.now }
+fn is_user_home(home: &Home) -> bool
+    ensures ok { result ≡ is_user_home home.now }
 {
     match home {
         Home::Global => false,
@@ -97,9 +97,9 @@ fn is_users(home: &Home) -> bool
 
 // Whether a document is under `users` of a usage whose documents are stored.
 fn is_stored(doc: &DocId) -> bool
-    ensures exact { result ≡ (is_some (usage_of doc.now.auid) && is_users doc.now.home) }
+    ensures exact { result ≡ (is_some (usage_of doc.now.auid) && is_user_home doc.now.home) }
 {
-    doc.auid.stored_usage().is_some() && is_users(&doc.home)
+    doc.auid.stored_usage().is_some() && is_user_home(&doc.home)
 }
 
 // The document of a target, where it can be followed.
@@ -133,7 +133,7 @@ fn target_under(alloc: Global, root: &Root, document: &Text) -> Result<Text, All
 }
 
 // The document of a target under a root, where it can be followed.
-fn followed_doc(alloc: Global, root: &Root, target: &Text) -> Result<Option<DocId>, AllocError>
+fn find_followed_doc(alloc: Global, root: &Root, target: &Text) -> Result<Option<DocId>, AllocError>
     ensures means_document { IfOk result (λ doc. MeansDocument root.now target.now doc) }
 {
     match read_target(alloc, root, target.as_str().as_bytes()) {
@@ -149,12 +149,16 @@ fn followed_doc(alloc: Global, root: &Root, target: &Text) -> Result<Option<DocI
 }
 
 // The document of a text after a root and a slash, where it can be followed.
-fn document_of(alloc: Global, root: &Root, document: &Text) -> Result<Option<DocId>, AllocError>
+fn read_followed_doc(
+    alloc: Global,
+    root: &Root,
+    document: &Text,
+) -> Result<Option<DocId>, AllocError>
     ensures means_document { IfOk result
         (λ doc. MeansDocument root.now (root.now ++ slash ∷ document.now) doc) }
 {
     let target = target_under(alloc, root, document)?;
-    followed_doc(alloc, root, &target)
+    find_followed_doc(alloc, root, &target)
 }
 
 /// Follows the document that a text names.
@@ -171,8 +175,8 @@ pub(crate) fn run_follow<C: Peer, O: Sink>(
         (record { peer = C.state peer.old; output = O.state output.old })
         (record { peer = C.state peer.new; output = O.state output.new }) }
 {
-    match document_of(alloc, &requester.root, document) {
-        Ok(Some(doc)) => exit_of(follow(alloc, requester, &doc, rounds, peer, output)),
+    match read_followed_doc(alloc, &requester.root, document) {
+        Ok(Some(doc)) => exit_after_call(follow(alloc, requester, &doc, rounds, peer, output)),
         Ok(None) => Exit::Usage,
         Err(AllocError) => Exit::OutOfMemory,
     }

@@ -1,19 +1,19 @@
 // The entry point.
 ghost use Rattle.std.specs.Prelude.{◌≡◌, None, Some, map, string_bytes};
-ghost use Rattle.xcap_app.specs.Commands.{command_of};
+ghost use Rattle.xcap_app.specs.Commands.{parse_command};
 ghost use Rattle.xcap_app.specs.Exits.{status_of, words_of};
-ghost use Rattle.xcap_app.specs.Runs.{Runs};
-ghost use Rattle.xcap_app.specs.Messages.{Tells};
+ghost use Rattle.xcap_app.specs.CommandRuns.{RunsCommand};
+ghost use Rattle.xcap_app.specs.ErrorMessages.{WritesMessage};
 ghost use Rattle.xcap_app.specs.declared.exit.Exit.{Exit};
 
-use crate::arguments::command_of;
+use crate::arguments::parse_command;
 use crate::check::check;
 use crate::client_runs::{run_delete, run_fetch, run_follow, run_put};
 use crate::command::Command;
 use crate::exit::Exit;
 use crate::keep::keep;
+use crate::messages::report_exit;
 use crate::replay::replay;
-use crate::report::tell_exit;
 use crate::sample::sample;
 use crate::serve::serve;
 use edit_ops::Edit;
@@ -30,7 +30,7 @@ fn execute<P: Port, C: Peer, I: Source, O: Sink, W: Watchers<Edit>>(
     output: &mut O,
     watchers: &mut W,
 ) -> Exit
-    ensures runs_command { Runs W.keeps (Some command.now) result
+    ensures runs_command { RunsCommand W.keeps (Some command.now) result
         (record {
           port = P.state port.old;
           peer = C.state peer.old;
@@ -102,7 +102,7 @@ fn execute_words<P: Port, C: Peer, I: Source, O: Sink, W: Watchers<Edit>>(
     output: &mut O,
     watchers: &mut W,
 ) -> Exit
-    ensures runs_command { Runs W.keeps (command_of (map string_bytes words.now)) result
+    ensures runs_command { RunsCommand W.keeps (parse_command (map string_bytes words.now)) result
         (record {
           port = P.state port.old;
           peer = C.state peer.old;
@@ -118,7 +118,7 @@ fn execute_words<P: Port, C: Peer, I: Source, O: Sink, W: Watchers<Edit>>(
           watchers = watchers.new;
         }) }
 {
-    match command_of(alloc, words) {
+    match parse_command(alloc, words) {
         Ok(Some(command)) => {
             let exit = execute(alloc, &command, port, peer, input, output, watchers);
             // Dropped by a call, whose proof is made once, rather than at each exit.
@@ -132,9 +132,9 @@ fn execute_words<P: Port, C: Peer, I: Source, O: Sink, W: Watchers<Edit>>(
 
 /// Runs the command that the words spell, which are the words of the command line without the
 /// program's name, and returns the status to exit with. What each command did, by how it ended, is
-/// defined by `Runs`; each status has its message on `errors`, and where `errors` fails, nothing
-/// else changes. For words that spell no command, it returns 2 and writes the usage line, and then
-/// nothing else is read, written, begun, requested or reported.
+/// defined by `RunsCommand`; each status has its message on `errors`, and where `errors` fails,
+/// nothing else changes. For words that spell no command, it returns 2 and writes the usage line,
+/// and then nothing else is read, written, begun, requested or reported.
 pub fn run<P: Port, C: Peer, I: Source, O: Sink, E: Sink, W: Watchers<Edit>>(
     alloc: Global,
     words: &[String],
@@ -146,7 +146,7 @@ pub fn run<P: Port, C: Peer, I: Source, O: Sink, E: Sink, W: Watchers<Edit>>(
     watchers: &mut W,
 ) -> u8
     ensures exit_status { (exit : Exit) × (result ≡ status_of exit)
-        × Runs W.keeps (command_of (map string_bytes words.now)) exit
+        × RunsCommand W.keeps (parse_command (map string_bytes words.now)) exit
         (record {
           port = P.state port.old;
           peer = C.state peer.old;
@@ -161,8 +161,8 @@ pub fn run<P: Port, C: Peer, I: Source, O: Sink, E: Sink, W: Watchers<Edit>>(
           output = O.state output.new;
           watchers = watchers.new;
         })
-        × Tells (words_of exit) (E.state errors.old) (E.state errors.new) }
+        × WritesMessage (words_of exit) (E.state errors.old) (E.state errors.new) }
 {
     let exit = execute_words(alloc, words, port, peer, input, output, watchers);
-    tell_exit(alloc, errors, exit).status()
+    report_exit(alloc, errors, exit).status()
 }

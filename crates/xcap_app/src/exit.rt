@@ -1,7 +1,7 @@
 // How a run ends: its status, and its message on the stream for errors.
 ghost use Rattle.std.specs.Prelude.{◌≡◌, IfOk, OnErr};
-ghost use Rattle.xcap_app.specs.Exits.{IsRefused, status_of, words_of};
-ghost use Rattle.xcap_app.specs.inner.Exits.{message_bytes};
+ghost use Rattle.xcap_app.specs.Exits.{HasAllocatedMessage, status_of, words_of};
+ghost use Rattle.xcap_app.specs.inner.MessageBytes.{message_bytes};
 
 use crate::journal_refusal::JournalRefusal;
 use crate::refusal::Refusal;
@@ -78,7 +78,7 @@ impl Exit {
     #[tactic(auto, unfolding(crate::specs::Exits::usage_line))]
     pub(crate) fn words(&self, alloc: Global) -> Result<Message, AllocError>
         ensures ok { IfOk result (λ words. message_bytes words ≡ words_of self.now) }
-        ensures err_is_refusal { OnErr result (IsRefused self.now) }
+        ensures err_is_refusal { OnErr result (HasAllocatedMessage self.now) }
     {
         match self {
             Exit::Done => Ok(Message::Fixed(b"")),

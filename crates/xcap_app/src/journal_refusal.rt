@@ -1,6 +1,6 @@
 // Why an old journal is refused.
 ghost use Rattle.std.specs.Prelude.{◌≡◌, IfOk, string_bytes};
-ghost use Rattle.xcap_app.specs.Exits.{journal_words};
+ghost use Rattle.xcap_app.specs.Exits.{journal_message};
 
 use std::alloc::{AllocError, Global};
 
@@ -21,7 +21,7 @@ impl JournalRefusal {
     /// # Errors
     /// `NoMemory` when out of memory.
     pub(crate) fn words(&self, alloc: Global) -> Result<String, AllocError>
-        ensures ok { IfOk result (λ words. string_bytes words ≡ journal_words self.now) }
+        ensures ok { IfOk result (λ words. string_bytes words ≡ journal_message self.now) }
     {
         match self {
             JournalRefusal::Damaged(place) => format!(in alloc; "journal: damaged {place}\n"),

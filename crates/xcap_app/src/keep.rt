@@ -3,14 +3,14 @@
 ghost use Rattle.std.specs.Prelude.{◌≡◌, ◌<◌, ◌≤◌, [], length, false, All};
 ghost use Rattle.edit_journal.specs.Journals.{IsJournalProgress};
 ghost use Rattle.edit_journal.specs.declared.limits.TheConstants.{MAX_JOURNAL_BYTES};
-ghost use Rattle.edit_journal.specs.Texts.{IsRecordedRequest, text};
+ghost use Rattle.edit_journal.specs.JournalTexts.{IsRecordedRequest, journal_text};
 ghost use Rattle.store_core.specs.Contents.{Represents};
 ghost use Rattle.store_core.specs.ValidStates.{IsValidState};
 ghost use Rattle.store_core.specs.State.{first_state};
-ghost use Rattle.xcap_server.specs.ReplayedRequests.{Redoing};
-ghost use Rattle.xcap_io.specs.Causes.{StreamState};
-ghost use Rattle.xcap_app.specs.KeepCommand.{KeepsCommand, KeepsOn, OldJournal, exit_of_restart};
-ghost use Rattle.xcap_app.specs.inner.Streams.{Streams};
+ghost use Rattle.xcap_server.specs.ReplayedRequests.{AcceptsRequests};
+ghost use Rattle.xcap_io.specs.StreamStates.{StreamState};
+ghost use Rattle.xcap_app.specs.KeepCommand.{KeepsCommand, EndsKeep, OldJournal, exit_of_restart};
+ghost use Rattle.xcap_app.specs.inner.JournalOutputs.{UsesOnlyJournal};
 
 use crate::exit::Exit;
 use crate::journal_refusal::JournalRefusal;
@@ -24,7 +24,7 @@ use xcap_server::{Server, serve_port_logged};
 use xcap_uri::Root;
 
 // How the command ends when it couldn't read its old journal.
-fn exit_of(fault: RestartFault) -> Exit
+fn exit_after_restart(fault: RestartFault) -> Exit
     ensures exact { result ≡ exit_of_restart fault }
 {
     match fault {
@@ -55,10 +55,10 @@ fn serve_logged<'a, O: Sink, P: Port, W: Watchers<Edit>>(
     requires no_fault { (⟦<StreamJournal<'a, O> as Journal>⟧.state journal.old).faults ≡ 0 }
     ensures keeps_on { (read : OldJournal) → IsValidState read.state
         → Represents server.old.content read.state
-        → Redoing server.old.root (first_state 1) read.requests read.state
+        → AcceptsRequests server.old.root (first_state 1) read.requests read.state
         → All IsRecordedRequest read.requests
-        → (⟦<StreamJournal<'a, O> as Journal>⟧.state journal.old).held ≡ text read.requests
-        → KeepsOn W.keeps (λ bytes. (⟦<StreamJournal<'a, O> as Journal>⟧.state journal.new).held
+        → (⟦<StreamJournal<'a, O> as Journal>⟧.state journal.old).held ≡ journal_text read.requests
+        → EndsKeep W.keeps (λ bytes. (⟦<StreamJournal<'a, O> as Journal>⟧.state journal.new).held
         ≡ bytes)
         (0 < (⟦<StreamJournal<'a, O> as Journal>⟧.state journal.new).faults)
         (record { address = address.now; root = server.old.root; count = count }) result read
@@ -82,7 +82,7 @@ fn serve_logged<'a, O: Sink, P: Port, W: Watchers<Edit>>(
 
 // Restarts the server from the old journal on the input, and serves with it. The new journal is
 // empty before.
-fn keep_over<'a, P: Port, I: Source, O: Sink, W: Watchers<Edit>>(
+fn restart_and_serve<'a, P: Port, I: Source, O: Sink, W: Watchers<Edit>>(
     alloc: Global,
     server: &mut Server,
     journal: &mut StreamJournal<'a, O>,
@@ -96,7 +96,7 @@ fn keep_over<'a, P: Port, I: Source, O: Sink, W: Watchers<Edit>>(
     requires fresh { (⟦<StreamJournal<'a, O> as Journal>⟧.state journal.old).held ≡ [] }
     requires no_fault { (⟦<StreamJournal<'a, O> as Journal>⟧.state journal.old).faults ≡ 0 }
     ensures keeps_command { (output output' : StreamState)
-        → Streams output output' (⟦<StreamJournal<'a, O> as Journal>⟧.state journal.new)
+        → UsesOnlyJournal output output' (⟦<StreamJournal<'a, O> as Journal>⟧.state journal.new)
         → KeepsCommand W.keeps
         (record { address = address.now; root = server.old.root; count = count }) result
         (record {
@@ -116,13 +116,13 @@ fn keep_over<'a, P: Port, I: Source, O: Sink, W: Watchers<Edit>>(
 {
     let mut log = match restart(alloc, input, journal, server) {
         Ok(log) => log,
-        Err(fault) => return exit_of(fault),
+        Err(fault) => return exit_after_restart(fault),
     };
     serve_logged(server, &mut log, journal, address, count, port, watchers)
 }
 
 // Restarts the server and serves with it, with the new journal on the output.
-fn keep_by<P: Port, I: Source, O: Sink, W: Watchers<Edit>>(
+fn keep_with_server<P: Port, I: Source, O: Sink, W: Watchers<Edit>>(
     alloc: Global,
     server: &mut Server,
     address: &str,
@@ -149,7 +149,7 @@ fn keep_by<P: Port, I: Source, O: Sink, W: Watchers<Edit>>(
         }) }
 {
     let mut journal = StreamJournal::new(output);
-    keep_over(
+    restart_and_serve(
         alloc,
         server,
         &mut journal,
@@ -193,7 +193,7 @@ pub(crate) fn keep<P: Port, I: Source, O: Sink, W: Watchers<Edit>>(
     let Ok(mut server) = Server::new(alloc, root, 1) else {
         return Exit::OutOfMemory;
     };
-    let exit = keep_by(
+    let exit = keep_with_server(
         alloc,
         &mut server,
         address,

@@ -1,6 +1,6 @@
 // A port over connections whose bytes are known before, on which replies are discarded.
 ghost use Rattle.std.specs.Prelude.{◌≡◌, ◌≤◌, [], length, drop};
-ghost use Rattle.xcap_io.specs.Histories.{no_history};
+ghost use Rattle.xcap_io.specs.ConnectionHistories.{no_history};
 ghost use Rattle.xcap_app.specs.inner.KnownPorts.{port_line};
 
 use std::alloc::Global;
@@ -64,8 +64,8 @@ impl Port for KnownPort {
         }
         self.present = self.to_come.remove(0);
         self.given = 0;
-        self.log.end();
-        self.log.begin();
+        self.log.record_end();
+        self.log.record_begin();
         Ok(true)
     }
 }

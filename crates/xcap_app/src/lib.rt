@@ -1,8 +1,8 @@
 //! The program's one call: it reads the words of the command line and runs the command that they
 //! spell.
 //! Promises upward a status, and for each status what the command did and the cause of its end
-//! (`Runs`; for the status 0 over real sockets and streams `IsDone`); nothing else is read,
-//! written, begun or reported.
+//! (`RunsCommand`; for the status 0 over real sockets and streams `DoesCommand`); nothing else is
+//! read, written, begun or reported.
 //! The commands are the project's own; they follow RFC 4825.
 //! Whether a word is a root is found by reading it, which allocates: so words that spell no
 //! command may end with 7.
@@ -19,9 +19,9 @@ mod exit;
 mod journal_refusal;
 mod keep;
 mod known_port;
+mod messages;
 mod refusal;
 mod replay;
-mod report;
 mod sample;
 mod sample_connections;
 mod sample_requests;

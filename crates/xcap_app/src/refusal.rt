@@ -1,6 +1,6 @@
 // Why a text is refused.
 ghost use Rattle.std.specs.Prelude.{◌≡◌, IfOk, string_bytes};
-ghost use Rattle.xcap_app.specs.Exits.{refusal_words};
+ghost use Rattle.xcap_app.specs.Exits.{refusal_message};
 
 use std::alloc::{AllocError, Global};
 use usage_docs::{Clash, Fault};
@@ -21,28 +21,29 @@ pub enum Refusal {
 }
 
 // The message about an element whose key repeats a sibling's.
-fn clash_words(alloc: Global, clash: &Clash) -> Result<String, AllocError>
+fn clash_message(alloc: Global, clash: &Clash) -> Result<String, AllocError>
     ensures ok { IfOk result
-        (λ words. string_bytes words ≡ refusal_words (Refusal.Faulty (Fault.Repeated clash.now))) }
+        (λ words. string_bytes words
+        ≡ refusal_message (Refusal.Faulty (Fault.Repeated clash.now))) }
 {
     let place = print_path(alloc, &clash.path)?;
     let mut words = String::from_str(alloc, "uniqueness-failure ")?;
     words.push_str(place.as_str())?;
     words.push_str("/@")?;
-    words.push_str(clash.key.word())?;
+    words.push_str(clash.key.attribute_name())?;
     words.push_str("\n")?;
     Ok(words)
 }
 
 // The message about a tree that is no document of its usage.
-fn fault_words(alloc: Global, fault: &Fault) -> Result<String, AllocError>
+fn fault_message(alloc: Global, fault: &Fault) -> Result<String, AllocError>
     ensures ok { IfOk result
-        (λ words. string_bytes words ≡ refusal_words (Refusal.Faulty fault.now)) }
+        (λ words. string_bytes words ≡ refusal_message (Refusal.Faulty fault.now)) }
 {
     match fault {
         Fault::Invalid => String::from_str(alloc, "schema-validation-error\n"),
         Fault::Unformed => String::from_str(alloc, "constraint-failure\n"),
-        Fault::Repeated(clash) => clash_words(alloc, clash),
+        Fault::Repeated(clash) => clash_message(alloc, clash),
     }
 }
 
@@ -52,13 +53,13 @@ impl Refusal {
     /// # Errors
     /// `NoMemory` when out of memory.
     pub(crate) fn words(&self, alloc: Global) -> Result<String, AllocError>
-        ensures ok { IfOk result (λ words. string_bytes words ≡ refusal_words self.now) }
+        ensures ok { IfOk result (λ words. string_bytes words ≡ refusal_message self.now) }
     {
         match self {
             Refusal::TooLarge => String::from_str(alloc, "too-large\n"),
             Refusal::NotUtf8 => String::from_str(alloc, "not-utf-8\n"),
             Refusal::NotWellFormed(place) => format!(in alloc; "not-well-formed {place}\n"),
-            Refusal::Faulty(fault) => fault_words(alloc, fault),
+            Refusal::Faulty(fault) => fault_message(alloc, fault),
         }
     }
 }

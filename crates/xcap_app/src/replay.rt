@@ -3,8 +3,8 @@ ghost use Rattle.std.specs.Prelude.{◌≡◌, []};
 ghost use Rattle.store_core.specs.Contents.{Represents};
 ghost use Rattle.store_core.specs.ValidStates.{IsValidState};
 ghost use Rattle.store_core.specs.State.{State};
-ghost use Rattle.xcap_app.specs.Replays.{ReplaysCommand, ServesInput};
-ghost use Rattle.xcap_app.specs.inner.Replays.{exit_of_connection};
+ghost use Rattle.xcap_app.specs.ReplayCommand.{ReplaysCommand, ServesInput};
+ghost use Rattle.xcap_app.specs.inner.ConnectionExits.{exit_of_connection};
 
 use crate::exit::Exit;
 use edit_ops::Edit;
@@ -16,7 +16,7 @@ use xcap_server::{Server, serve_connection};
 use xcap_uri::Root;
 
 // How the command ends when its connection ends so.
-fn exit_of(ended: CloseReason) -> Exit
+fn exit_after_connection(ended: CloseReason) -> Exit
     ensures exact { result ≡ exit_of_connection ended }
 {
     match ended {
@@ -51,7 +51,7 @@ fn serve_pair<I: Source, O: Sink, W: Watchers<Edit>>(
 }
 
 // Serves the input as one connection, by this server, which is new.
-fn replay_by<I: Source, O: Sink, W: Watchers<Edit>>(
+fn replay_with_server<I: Source, O: Sink, W: Watchers<Edit>>(
     server: &mut Server,
     input: &mut I,
     output: &mut O,
@@ -70,7 +70,7 @@ fn replay_by<I: Source, O: Sink, W: Watchers<Edit>>(
           watchers = watchers.new;
         }) }
 {
-    exit_of(serve_pair(server, input, output, watchers))
+    exit_after_connection(serve_pair(server, input, output, watchers))
 }
 
 /// Serves the input as one connection, whose replies go to the output, by a new server of this
@@ -97,7 +97,7 @@ pub(crate) fn replay<I: Source, O: Sink, W: Watchers<Edit>>(
     let Ok(mut server) = Server::new(alloc, root, 1) else {
         return Exit::OutOfMemory;
     };
-    let exit = replay_by(&mut server, input, output, watchers);
+    let exit = replay_with_server(&mut server, input, output, watchers);
     // Dropped by a call, whose proof is made once, rather than at each exit.
     drop(server);
     exit

@@ -2,7 +2,7 @@
 ghost use Rattle.std.specs.Prelude.{◌≡◌, ◌+◌, ◌≤◌, IfOk};
 ghost use Rattle.xcap_app.specs.SampleRequests.{all_connections, requests_from};
 
-use crate::sample_requests::request;
+use crate::sample_requests::request_with_number;
 use http_wire::MAX_REQUESTS;
 use std::alloc::{AllocError, Global};
 use xcap_io::Bytes;
@@ -11,14 +11,14 @@ use xcap_io::Bytes;
 const MAX_PER_CONNECTION: u64 = MAX_REQUESTS as u64;
 
 // The bytes of `count` requests, from the request `first` on.
-fn connection(alloc: Global, first: u64, count: u64) -> Result<Bytes, AllocError>
+fn build_connection(alloc: Global, first: u64, count: u64) -> Result<Bytes, AllocError>
     requires within_max { first + count ≤ 8589934592 }
     ensures ok { IfOk result (λ bytes. bytes ≡ requests_from first count) }
 {
     let mut bytes = Bytes::new(alloc);
     let mut made = 0;
     'requests: while made < count {
-        let text = request(alloc, first + made)?;
+        let text = request_with_number(alloc, first + made)?;
         bytes.extend(text.as_str().as_bytes())?;
         made += 1;
     }
@@ -26,7 +26,7 @@ fn connection(alloc: Global, first: u64, count: u64) -> Result<Bytes, AllocError
 }
 
 // The bytes of all connections of this many requests.
-pub(crate) fn connections(alloc: Global, requests: u64) -> Result<Vec<Bytes>, AllocError>
+pub(crate) fn build_connections(alloc: Global, requests: u64) -> Result<Vec<Bytes>, AllocError>
     requires within_max { requests ≤ 4294967295 }
     ensures ok { IfOk result (λ all. all.items ≡ all_connections requests) }
 {
@@ -35,7 +35,7 @@ pub(crate) fn connections(alloc: Global, requests: u64) -> Result<Vec<Bytes>, Al
     let mut number = 0;
     'connections: while number < count {
         let first = number * MAX_PER_CONNECTION;
-        all.push(connection(
+        all.push(build_connection(
             alloc,
             first,
             MAX_PER_CONNECTION.min(requests.saturating_sub(first)),

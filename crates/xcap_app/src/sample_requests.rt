@@ -1,6 +1,6 @@
 // The requests of a sample.
 ghost use Rattle.std.specs.Prelude.{◌≡◌, IfOk, codes, string_bytes};
-ghost use Rattle.xcap_app.specs.SampleRequests.{bytes_in_round, delete_bytes, document_body};
+ghost use Rattle.xcap_app.specs.SampleRequests.{round_request, delete_bytes, document_body};
 ghost use Rattle.xcap_app.specs.SampleRequests.{document_path, entry_body, entry_path, entry_uri};
 ghost use Rattle.xcap_app.specs.SampleRequests.{put_bytes, numbered_request, user_name};
 
@@ -49,7 +49,13 @@ fn entry_body(alloc: Global, uri: &str) -> Result<String, AllocError>
 
 // A PUT of a body.
 #[tactic(auto, unfolding(crate::specs::SampleRequests::put_bytes))]
-fn put(alloc: Global, user: &str, path: &str, media: &str, body: &str) -> Result<String, AllocError>
+fn put_request(
+    alloc: Global,
+    user: &str,
+    path: &str,
+    media: &str,
+    body: &str,
+) -> Result<String, AllocError>
     ensures ok { IfOk result
         (λ text. string_bytes text ≡ put_bytes user.now path.now media.now body.now) }
 {
@@ -60,7 +66,7 @@ fn put(alloc: Global, user: &str, path: &str, media: &str, body: &str) -> Result
 }
 
 #[tactic(auto, unfolding(crate::specs::SampleRequests::delete_bytes))]
-fn delete(alloc: Global, user: &str, path: &str) -> Result<String, AllocError>
+fn delete_request(alloc: Global, user: &str, path: &str) -> Result<String, AllocError>
     ensures ok { IfOk result (λ text. string_bytes text ≡ delete_bytes user.now path.now) }
 {
     format!(in alloc;
@@ -77,7 +83,7 @@ fn put_document(alloc: Global, user: &str) -> Result<String, AllocError>
         (codes "application/resource-lists+xml") document_body) }
 {
     let path = document_path(alloc, user)?;
-    put(
+    put_request(
         alloc,
         user,
         path.as_str(),
@@ -87,7 +93,7 @@ fn put_document(alloc: Global, user: &str) -> Result<String, AllocError>
 }
 
 // The path of the user's entry with this URI.
-fn path_to(alloc: Global, user: &str, uri: &str) -> Result<String, AllocError>
+fn user_entry_path(alloc: Global, user: &str, uri: &str) -> Result<String, AllocError>
     ensures ok { IfOk result
         (λ text. string_bytes text ≡ entry_path (document_path user.now) uri.now) }
 {
@@ -102,9 +108,9 @@ fn put_entry(alloc: Global, user: &str, round: u64) -> Result<String, AllocError
         (codes "application/xcap-el+xml") (entry_body (entry_uri round))) }
 {
     let uri = entry_uri(alloc, round)?;
-    let path = path_to(alloc, user, uri.as_str())?;
+    let path = user_entry_path(alloc, user, uri.as_str())?;
     let body = entry_body(alloc, uri.as_str())?;
-    put(
+    put_request(
         alloc,
         user,
         path.as_str(),
@@ -120,13 +126,13 @@ fn delete_entry(alloc: Global, user: &str, round: u64) -> Result<String, AllocEr
         ≡ delete_bytes user.now (entry_path (document_path user.now) (entry_uri round))) }
 {
     let uri = entry_uri(alloc, round)?;
-    let path = path_to(alloc, user, uri.as_str())?;
-    delete(alloc, user, path.as_str())
+    let path = user_entry_path(alloc, user, uri.as_str())?;
+    delete_request(alloc, user, path.as_str())
 }
 
 // A user's request of the round.
 fn request_in_round(alloc: Global, user: &str, round: u64) -> Result<String, AllocError>
-    ensures ok { IfOk result (λ text. string_bytes text ≡ bytes_in_round user.now round) }
+    ensures ok { IfOk result (λ text. string_bytes text ≡ round_request user.now round) }
 {
     if round == 0 {
         return put_document(alloc, user);
@@ -138,7 +144,7 @@ fn request_in_round(alloc: Global, user: &str, round: u64) -> Result<String, All
 }
 
 // The request with this number.
-pub(crate) fn request(alloc: Global, number: u64) -> Result<String, AllocError>
+pub(crate) fn request_with_number(alloc: Global, number: u64) -> Result<String, AllocError>
     ensures ok { IfOk result (λ text. string_bytes text ≡ numbered_request number) }
 {
     let user = user_name(alloc, number % 100)?;

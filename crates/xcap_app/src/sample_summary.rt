@@ -1,6 +1,6 @@
 //! The summary of a sample.
 ghost use Rattle.std.specs.Prelude.{◌≡◌, IfOk, string_bytes};
-ghost use Rattle.xcap_app.specs.Samples.{answered_text, held_text, summary_text};
+ghost use Rattle.xcap_app.specs.SampleCommand.{reply_lines_text, document_lines_text, summary_text};
 
 use std::alloc::{AllocError, Global};
 
@@ -25,9 +25,9 @@ pub struct Summary {
 
 impl Summary {
     // The lines about the replies.
-    #[tactic(auto, unfolding(crate::specs::Samples::answered_text))]
+    #[tactic(auto, unfolding(crate::specs::SampleCommand::reply_lines_text))]
     fn reply_lines(&self, alloc: Global) -> Result<String, AllocError>
-        ensures ok { IfOk result (λ text. string_bytes text ≡ answered_text self.now) }
+        ensures ok { IfOk result (λ text. string_bytes text ≡ reply_lines_text self.now) }
     {
         format!(in alloc;
             "requests {}\ncreated {}\nchanged {}\nrefused {}\n",
@@ -36,9 +36,9 @@ impl Summary {
     }
 
     // The lines about the stored documents.
-    #[tactic(auto, unfolding(crate::specs::Samples::held_text))]
+    #[tactic(auto, unfolding(crate::specs::SampleCommand::document_lines_text))]
     fn document_lines(&self, alloc: Global) -> Result<String, AllocError>
-        ensures ok { IfOk result (λ text. string_bytes text ≡ held_text self.now) }
+        ensures ok { IfOk result (λ text. string_bytes text ≡ document_lines_text self.now) }
     {
         format!(in alloc;
             "documents {}\nbytes {}\nlast {}\n",

@@ -1,9 +1,9 @@
 // The command `serve`: the connections that come at an address.
 ghost use Rattle.std.specs.Prelude.{◌≡◌, []};
-ghost use Rattle.xcap_io.specs.Causes.{OnlyWrites};
-ghost use Rattle.xcap_io.specs.Streams.{WritesAll};
-ghost use Rattle.xcap_app.specs.Serves.{served_line, ServesCommand};
-ghost use Rattle.xcap_app.specs.inner.Messages.{Prints};
+ghost use Rattle.xcap_io.specs.StreamStates.{OnlyWrites};
+ghost use Rattle.xcap_io.specs.StreamWrites.{WritesAll};
+ghost use Rattle.xcap_app.specs.ServeCommand.{served_line, ServesCommand};
+ghost use Rattle.xcap_app.specs.inner.CommandOutputs.{PrintsOutput};
 
 use crate::exit::Exit;
 use edit_ops::Edit;
@@ -16,7 +16,7 @@ use xcap_server::{Server, serve_port};
 use xcap_uri::Root;
 
 // Writes the number of connections served.
-fn write_served<O: Sink>(output: &mut O, connections: u64) -> Result<(), Failed>
+fn write_served_line<O: Sink>(output: &mut O, connections: u64) -> Result<(), Failed>
     ensures all_or_prefix { WritesAll (O.state output.old).taken (O.state output.new).taken result
         (served_line connections) }
     ensures only_writes { OnlyWrites (O.state output.old) (O.state output.new) result }
@@ -34,11 +34,11 @@ fn write_served<O: Sink>(output: &mut O, connections: u64) -> Result<(), Failed>
 }
 
 // How the command ends after this many connections were served. Does not allocate.
-fn print_served<O: Sink>(output: &mut O, connections: u64) -> Exit
-    ensures prints_count { Prints (served_line connections) result (O.state output.old)
+fn print_served_line<O: Sink>(output: &mut O, connections: u64) -> Exit
+    ensures prints_count { PrintsOutput (served_line connections) result (O.state output.old)
         (O.state output.new) }
 {
-    match write_served(output, connections) {
+    match write_served_line(output, connections) {
         Ok(()) => Exit::Done,
         Err(Failed) => Exit::OutputFailed,
     }
@@ -74,7 +74,7 @@ fn serve_at<P: Port, O: Sink, W: Watchers<Edit>>(
     let served = serve_port(server, port, count as u64, watchers);
     match served.stop {
         StopReason::PortFailed => Exit::NetworkFailed,
-        StopReason::Count | StopReason::NoMore => print_served(output, served.connections),
+        StopReason::Count | StopReason::NoMore => print_served_line(output, served.connections),
     }
 }
 

@@ -1,8 +1,8 @@
 // A server that records the status of each reply.
 ghost use Rattle.std.specs.Prelude.{◌≡◌, ◌≤◌, ◌<◌, [], ◌∷◌, ◌++◌, length, count_by, ◌==◌, IfOk};
 ghost use Rattle.xcap_app.specs.SampleRequests.{root_text};
-ghost use Rattle.xcap_app.specs.Samples.{summary_of};
-ghost use Rattle.xcap_app.specs.inner.RecorderSteps.{is_new};
+ghost use Rattle.xcap_app.specs.SampleCommand.{summary_of};
+ghost use Rattle.xcap_app.specs.inner.RecorderSteps.{new_recorder_state};
 
 use crate::sample_summary::Summary;
 use edit_ops::Edit;
@@ -23,13 +23,13 @@ pub(crate) struct StatusRecorder {
 
 impl Model for StatusRecorder {
     ghost use Rattle.std.specs.Prelude.{◌≤◌, length, take};
-    ghost use Rattle.xcap_app.specs.inner.RecorderSteps.{NotingState};
+    ghost use Rattle.xcap_app.specs.inner.RecorderSteps.{RecorderState};
     ghost use Rattle.std.specs.Coded.{codes};
-    ghost use Rattle.xml_tree.specs.inner.Codes.{tree_code};
+    ghost use Rattle.xml_tree.specs.inner.TreeCodes.{tree_code};
     ghost use Rattle.doc_names.specs.contracts.doc_id.DocId as d;
     ghost use Rattle.edit_ops.specs.contracts.change.Change as c;
 
-    ghost Value = { NotingState };
+    ghost Value = { RecorderState };
 
     ghost coded = { Prim.hlevel (codes, tree_code, d.the_row.coded, c.the_row.coded) };
 
@@ -54,7 +54,7 @@ fn sample_root(alloc: Global) -> Result<Root, AllocError>
 }
 
 // The number of statuses that are this one.
-fn count_of(statuses: &[u16], status: u16) -> usize
+fn count_status(statuses: &[u16], status: u16) -> usize
     ensures exact { result ≡ count_by (λ s. s == status) statuses.now }
 {
     statuses.iter().filter(|s| **s == status).count()
@@ -63,7 +63,7 @@ fn count_of(statuses: &[u16], status: u16) -> usize
 impl StatusRecorder {
     // A server without documents, and a buffer for `room` statuses.
     pub(crate) fn new(alloc: Global, room: usize) -> Result<StatusRecorder, AllocError>
-        ensures is_new { IfOk result (λ noting. noting ≡ is_new room) }
+        ensures is_new { IfOk result (λ noting. noting ≡ new_recorder_state room) }
     {
         let root = sample_root(alloc)?;
         let room = vec![in alloc; 0; room]?;
@@ -76,7 +76,7 @@ impl StatusRecorder {
     }
 
     // Records a status.
-    fn note(&mut self, status: u16)
+    fn record_status(&mut self, status: u16)
         requires room_left { length self.old.statuses < self.old.room }
         ensures exact { self.new ≡ record self.old { statuses = self.old.statuses ++ status ∷ [] } }
     {
@@ -89,8 +89,8 @@ impl StatusRecorder {
         ensures exact { result ≡ summary_of requests self.now.statuses self.now.server.content }
     {
         let statuses = &self.room[..self.len];
-        let created = count_of(statuses, 201) as u64;
-        let changed = count_of(statuses, 200) as u64;
+        let created = count_status(statuses, 201) as u64;
+        let changed = count_status(statuses, 200) as u64;
         let store = self.server.store();
         Summary {
             requests,
@@ -105,19 +105,20 @@ impl StatusRecorder {
 }
 
 impl Machine for StatusRecorder {
-    ghost use Rattle.xcap_app.specs.inner.RecorderSteps.{AnswersNoting, HasRoomFor, has_fewer};
+    ghost use Rattle.xcap_app.specs.inner.RecorderSteps.{AnswersRecording, HasRoomForStatuses};
+    ghost use Rattle.xcap_app.specs.inner.RecorderSteps.{has_room_for_fewer};
 
     type Edit = Edit;
 
-    ghost steps = { AnswersNoting };
+    ghost steps = { AnswersRecording };
 
-    ghost takes = { HasRoomFor };
+    ghost takes = { HasRoomForStatuses };
 
     fn answer(&mut self, request: &Request) -> Result<MachineReply<Edit>, AllocError> {
         let answered = answer(&mut self.server, request)?;
-        self.note(answered.reply.status());
+        self.record_status(answered.reply.status());
         Ok(answered)
     }
 
-    ghost takes_fewer = { has_fewer };
+    ghost takes_fewer = { has_room_for_fewer };
 }

@@ -1,16 +1,16 @@
 // The entry points over sockets and streams of the system.
 ghost use Rattle.std.specs.Prelude.{◌≡◌, [], None, map, option_and_then, string_bytes};
-ghost use Rattle.xcap_io.specs.Causes.{none_begun};
-ghost use Rattle.xcap_app.specs.Commands.{command_of};
+ghost use Rattle.xcap_io.specs.StreamStates.{no_connections};
+ghost use Rattle.xcap_app.specs.Commands.{parse_command};
 ghost use Rattle.xcap_app.specs.Exits.{status_of, words_of};
-ghost use Rattle.xcap_app.specs.Runs.{Runs};
-ghost use Rattle.xcap_app.specs.System.{IsDone};
-ghost use Rattle.xcap_app.specs.Messages.{Tells};
+ghost use Rattle.xcap_app.specs.CommandRuns.{RunsCommand};
+ghost use Rattle.xcap_app.specs.SystemRuns.{DoesCommand};
+ghost use Rattle.xcap_app.specs.ErrorMessages.{WritesMessage};
 ghost use Rattle.xcap_app.specs.declared.exit.Exit.{Exit};
 
 use crate::entry_point::run;
 use crate::exit::Exit;
-use crate::report::tell_exit;
+use crate::messages::report_exit;
 use edit_ops::Edit;
 use std::alloc::Global;
 use std::io::{Read, Write};
@@ -38,10 +38,11 @@ pub fn run_on_system<N: Net + Clock + Drop, I: Read, O: Write, E: Write, W: Watc
     errors: &mut StdSink<E>,
     watchers: &mut W,
 ) -> u8
-    requires none_begun { (⟦<TcpPort<N> as Line>⟧.state port.old).port.begun ≡ none_begun }
+    requires no_connections { (⟦<TcpPort<N> as Line>⟧.state port.old).port.begun ≡ no_connections }
     requires none_given { (⟦<StdSource<I> as Line>⟧.state input.old).inward.given ≡ [] }
     requires none_taken { (⟦<StdSink<O> as Line>⟧.state output.old).taken ≡ [] }
-    ensures status_0_done { result ≡ 0 → IsDone W.keeps (command_of (map string_bytes words.now))
+    ensures status_0_done { result ≡ 0
+        → DoesCommand W.keeps (parse_command (map string_bytes words.now))
         (record {
           port = ⟦<TcpPort<N> as Line>⟧.state port.old;
           peer = ⟦<TcpPeer<N> as Line>⟧.state peer.old;
@@ -57,7 +58,7 @@ pub fn run_on_system<N: Net + Clock + Drop, I: Read, O: Write, E: Write, W: Watc
           watchers = watchers.new;
         }) }
     ensures exit_status { (exit : Exit) × (result ≡ status_of exit)
-        × Runs W.keeps (command_of (map string_bytes words.now)) exit
+        × RunsCommand W.keeps (parse_command (map string_bytes words.now)) exit
         (record {
           port = ⟦<TcpPort<N> as Line>⟧.state port.old;
           peer = ⟦<TcpPeer<N> as Line>⟧.state peer.old;
@@ -72,7 +73,7 @@ pub fn run_on_system<N: Net + Clock + Drop, I: Read, O: Write, E: Write, W: Watc
           output = ⟦<StdSink<O> as Line>⟧.state output.new;
           watchers = watchers.new;
         })
-        × Tells (words_of exit) (⟦<StdSink<E> as Line>⟧.state errors.old)
+        × WritesMessage (words_of exit) (⟦<StdSink<E> as Line>⟧.state errors.old)
         (⟦<StdSink<E> as Line>⟧.state errors.new) }
 {
     run(alloc, words, port, peer, input, output, errors, watchers)
@@ -91,12 +92,12 @@ pub fn start<N: Net + Clock + Drop, I: Read, O: Write, E: Write + Drop>(
     errors: &mut StdSink<E>,
     audit: &mut Option<Audit<StdSink<E>>>,
 ) -> u8
-    requires none_begun { (⟦<TcpPort<N> as Line>⟧.state port.old).port.begun ≡ none_begun }
+    requires no_connections { (⟦<TcpPort<N> as Line>⟧.state port.old).port.begun ≡ no_connections }
     requires none_given { (⟦<StdSource<I> as Line>⟧.state input.old).inward.given ≡ [] }
     requires none_taken { (⟦<StdSink<O> as Line>⟧.state output.old).taken ≡ [] }
     ensures status_0_done { result ≡ 0
-        → IsDone ⟦<Option<Audit<StdSink<E>>> as Watchers<Edit>>⟧.keeps
-        (option_and_then (λ words. command_of (map string_bytes words.items)) words)
+        → DoesCommand ⟦<Option<Audit<StdSink<E>>> as Watchers<Edit>>⟧.keeps
+        (option_and_then (λ words. parse_command (map string_bytes words.items)) words)
         (record {
           port = ⟦<TcpPort<N> as Line>⟧.state port.old;
           peer = ⟦<TcpPeer<N> as Line>⟧.state peer.old;
@@ -112,8 +113,8 @@ pub fn start<N: Net + Clock + Drop, I: Read, O: Write, E: Write + Drop>(
           watchers = audit.new;
         }) }
     ensures exit_status { (exit : Exit) × (result ≡ status_of exit)
-        × Runs ⟦<Option<Audit<StdSink<E>>> as Watchers<Edit>>⟧.keeps
-        (option_and_then (λ words. command_of (map string_bytes words.items)) words) exit
+        × RunsCommand ⟦<Option<Audit<StdSink<E>>> as Watchers<Edit>>⟧.keeps
+        (option_and_then (λ words. parse_command (map string_bytes words.items)) words) exit
         (record {
           port = ⟦<TcpPort<N> as Line>⟧.state port.old;
           peer = ⟦<TcpPeer<N> as Line>⟧.state peer.old;
@@ -128,12 +129,12 @@ pub fn start<N: Net + Clock + Drop, I: Read, O: Write, E: Write + Drop>(
           output = ⟦<StdSink<O> as Line>⟧.state output.new;
           watchers = audit.new;
         })
-        × Tells (words_of exit) (⟦<StdSink<E> as Line>⟧.state errors.old)
+        × WritesMessage (words_of exit) (⟦<StdSink<E> as Line>⟧.state errors.old)
         (⟦<StdSink<E> as Line>⟧.state errors.new) }
     ensures no_words_status { words ≡ None → result ≡ status_of Exit.OutOfMemory }
 {
     let Some(words) = words else {
-        return tell_exit(alloc, errors, Exit::OutOfMemory).status();
+        return report_exit(alloc, errors, Exit::OutOfMemory).status();
     };
     run_on_system(alloc, &words, port, peer, input, output, errors, audit)
 }

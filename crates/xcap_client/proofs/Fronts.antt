@@ -12,7 +12,7 @@ use Rattle.httparse.specs.declared.spans.Span.{Span}
 use Rattle.httparse.specs.declared.spans.HeaderSpan.{HeaderSpan}
 use Rattle.httparse.specs.declared.spans.ResponseSpans.{ResponseSpans}
 use Rattle.httparse.proofs.GrammarLemmas.{ReadsResponse-append}
-use Rattle.xcap_client.specs.Heads.{BeginsWithHead, HasNoHead}
+use Rattle.xcap_client.specs.ResponseHeads.{BeginsWithHead, HasNoHead}
 use Rattle.xcap_client.specs.inner.ReadBuffer.{NeverHasHead}
 use Rattle.xcap_client.specs.inner.ReadBuffer.{IsHeadAt}
 

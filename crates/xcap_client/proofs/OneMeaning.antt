@@ -8,9 +8,9 @@ use Rattle.request_checks.specs.Tags.{tag_text}
 use Rattle.request_checks.specs.readers.Fields.{entity_tag}
 use Rattle.xcap_client.specs.declared.response_fault.ResponseFault.{ResponseFault}
 use Rattle.xcap_client.specs.declared.response.Response.{Response}
-use Rattle.xcap_client.specs.Heads.{BeginsWithHead}
-use Rattle.xcap_client.specs.Tags.{GivesTag, IsTagWith, TagIs}
-use Rattle.xcap_client.specs.BodyLengths.{body_to}
+use Rattle.xcap_client.specs.ResponseHeads.{BeginsWithHead}
+use Rattle.xcap_client.specs.ResponseTags.{HasTag, IsEntityTagOf, IsTagOf}
+use Rattle.xcap_client.specs.BodyLengths.{body_result}
 use Rattle.xcap_client.specs.Responses.{extent_of, response_of, IsResponseOf, no_head, refused, responds}
 use Rattle.xcap_client.proofs.QuoteLemmas.{one_value}
 
@@ -30,26 +30,26 @@ opaque_is value o p true false one two = let same : 87 ∷ 47 ∷ 34 ∷ (o ++ 3
 opaque_is value o p false true one two = let same : 34 ∷ (o ++ 34 ∷ []) ≡ 87 ∷ 47 ∷ 34 ∷ (p ++ 34 ∷ []) = sym one ∙ two in
     let never : 34 ≡ 87 = heads 34 87 (o ++ 34 ∷ []) (47 ∷ 34 ∷ (p ++ 34 ∷ [])) same in absurd (omega (arith, never))
 
-opaque_of_one : (value o p : List ℕ) → IsTagWith value o → IsTagWith value p → o ≡ p
+opaque_of_one : (value o p : List ℕ) → IsEntityTagOf value o → IsEntityTagOf value p → o ≡ p
 opaque_of_one value o p (weak, lawful, is) (other, lawful', is') = opaque_is value o p weak other is is'
 
-gives_one : (fields : List (List ℕ × List ℕ)) (tag other : List ℕ) → GivesTag fields tag → GivesTag fields other → tag ≡ other
+gives_one : (fields : List (List ℕ × List ℕ)) (tag other : List ℕ) → HasTag fields tag → HasTag fields other → tag ≡ other
 gives_one fields tag other one two =
     let value : one.value ≡ two.value = one_value one.value two.value (sym one.once ∙ two.once) in
-    let opaque : one.opaque ≡ two.opaque = opaque_of_one two.value one.opaque two.opaque (subst (λ (v : List ℕ). IsTagWith v one.opaque) value one.quoted) two.quoted in
+    let opaque : one.opaque ≡ two.opaque = opaque_of_one two.value one.opaque two.opaque (subst (λ (v : List ℕ). IsEntityTagOf v one.opaque) value one.quoted) two.quoted in
     one.text ∙ ap chars opaque ∙ sym two.text
 
-tag_is_one : (fields : List (List ℕ × List ℕ)) (tag other : Option (List ℕ)) → TagIs fields tag → TagIs fields other → tag ≡ other
+tag_is_one : (fields : List (List ℕ × List ℕ)) (tag other : Option (List ℕ)) → IsTagOf fields tag → IsTagOf fields other → tag ≡ other
 tag_is_one fields None None one two = refl
 tag_is_one fields None (Some t) one two = absurd (one t two)
 tag_is_one fields (Some t) None one two = absurd (two t one)
 tag_is_one fields (Some t) (Some u) one two = ap (λ (x : List ℕ). Some x) (gives_one fields t u one two)
 
 -- two heads at the front of the same bytes are equal, and so are the bytes after them
-same_body : (bytes : List ℕ) (head other : ResponseHead) (rest behind : List ℕ) → BeginsWithHead bytes head rest → BeginsWithHead bytes other behind → (head ≡ other) × (body_to (extent_of head) rest ≡ body_to (extent_of other) behind)
+same_body : (bytes : List ℕ) (head other : ResponseHead) (rest behind : List ℕ) → BeginsWithHead bytes head rest → BeginsWithHead bytes other behind → (head ≡ other) × (body_result (extent_of head) rest ≡ body_result (extent_of other) behind)
 same_body bytes head other rest behind one two =
     let same = response_unique bytes head other rest behind one.reads two.reads in
-    (same.0, ap (λ (h : ResponseHead). body_to (extent_of h) rest) same.0 ∙ ap (body_to (extent_of other)) same.1)
+    (same.0, ap (λ (h : ResponseHead). body_result (extent_of h) rest) same.0 ∙ ap (body_result (extent_of other)) same.1)
 
 err_is : (f g : ResponseFault) (r s : Result (List ℕ) ResponseFault) → r ≡ s → r ≡ Err f → s ≡ Err g → f ≡ g
 err_is f g r s same one two = let e : Err f ≡ s = sym one ∙ same in let e' = e ∙ two in cc
@@ -75,7 +75,7 @@ one_meaning bytes a b (responds h r t x begins tagged said is) (refused k s g be
 one_meaning bytes a b (responds h r t x begins tagged said is) (responds k s u y begins' tagged' said' is') =
     let same = same_body bytes h k r s begins begins' in
     let fields = ap (λ (head : ResponseHead). map name_and_value head.fields) same.0 in
-    let tags : t ≡ u = tag_is_one (map name_and_value k.fields) t u (subst (λ (fs : List (List ℕ × List ℕ)). TagIs fs t) fields tagged) tagged' in
+    let tags : t ≡ u = tag_is_one (map name_and_value k.fields) t u (subst (λ (fs : List (List ℕ × List ℕ)). IsTagOf fs t) fields tagged) tagged' in
     let bodies : x ≡ y = ok_is x y _ _ same.1 said said' in
     is
     ∙ ap (λ (head : ResponseHead). Ok (response_of head t x)) same.0

@@ -15,13 +15,13 @@ use Rattle.httparse.specs.Grammar.{RequestHead, print_request, Field, IsField, p
 use Rattle.httparse.specs.Spans.{name_and_value}
 use Rattle.http_wire.specs.declared.framing.Framing.TheVariants.{Length}
 use Rattle.http_wire.specs.declared.request.Request.{Request}
-use Rattle.http_wire.specs.Fields.{is_number, has_close, asks_to_close}
-use Rattle.http_wire.specs.Framing.{framing, lacks_host, coding_by, length_by}
-use Rattle.http_wire.specs.Items.{AsksFor, BeginsWithFramedHead, field_of, request_of, with_length}
+use Rattle.http_wire.specs.Fields.{is_number, has_close_option, asks_to_close}
+use Rattle.http_wire.specs.Framing.{framing, lacks_host, framing_of_codings, framing_of_lengths}
+use Rattle.http_wire.specs.ConnectionItems.{AsksFor, BeginsWithFramedHead, field_of, request_of, with_length}
 use Rattle.xcap_uri.specs.Roots.{IsRoot, path_of, authority_of, slash}
 use Rattle.xcap_client.specs.declared.request.Ask.{Ask}
-use Rattle.xcap_client.specs.Requests.{IsLawful, user_field, content_fields, fields_of, field_line, request_line, target_of, head_bytes}
-use Rattle.xcap_client.specs.ParsedRequests.{is_plain_char, IsPlain, IsSendable, meant, IsUnderstood}
+use Rattle.xcap_client.specs.Requests.{IsLawfulAsk, user_field, content_fields, fields_of, field_line, request_line, target_of, head_bytes}
+use Rattle.xcap_client.specs.ParsedRequests.{is_plain_char, IsPlainText, IsSendable, request_of_ask, IsParsedAsMeant}
 use Rattle.xcap_client.proofs.Visible.{is_visible, passes, each_true, visible_utf8, visible_is_utf8, visible_in_target, visible_in_value, visible_trims, visible-append}
 use Rattle.xcap_client.proofs.RootLetters.{root_path_visible, root_authority_visible}
 
@@ -109,17 +109,17 @@ fields_from host user media body =
     (codes "Host", host) ∷ (option_map_or user_field user [] ++ (option_map_or (content_fields body) media [] ++ (codes "Connection", codes "close") ∷ []))
 
 framed_none : (host : List ℕ) (user : Option (List ℕ)) → framing 1 (fields_from host user None []) ≡ Length 0
-unfolding framing lacks_host coding_by length_by
+unfolding framing lacks_host framing_of_codings framing_of_lengths
 framed_none host None = refl
 framed_none host (Some user) = refl
 
-framed_some : (host media body : List ℕ) (user : Option (List ℕ)) → framing 1 (fields_from host user (Some media) body) ≡ length_by (decimal (length body) ∷ [])
-unfolding framing lacks_host coding_by
+framed_some : (host media body : List ℕ) (user : Option (List ℕ)) → framing 1 (fields_from host user (Some media) body) ≡ framing_of_lengths (decimal (length body) ∷ [])
+unfolding framing lacks_host framing_of_codings
 framed_some host media body None = refl
 framed_some host media body (Some user) = refl
 
-by_length : (n : ℕ) → n ≤ 262_144 → length_by (decimal n ∷ []) ≡ Length n
-unfolding length_by
+by_length : (n : ℕ) → n ≤ 262_144 → framing_of_lengths (decimal n ∷ []) ≡ Length n
+unfolding framing_of_lengths
 by_length n short =
     let value = (decimal_is_IsNumeral n (omega (arith, short))).1 in
     let fits : nat_le n 262_144 ≡ true = grind (arith, nat_tests) in
@@ -130,7 +130,7 @@ framed host body user None empty short = rw (empty refl) (framed_none host user)
 framed host body user (Some media) empty short = framed_some host media body user ∙ by_length (length body) short
 
 closes : (host body : List ℕ) (user media : Option (List ℕ)) → asks_to_close (fields_from host user media body) ≡ true
-unfolding asks_to_close has_close trim_ows
+unfolding asks_to_close has_close_option trim_ows
 closes host body None None = refl
 closes host body None (Some media) = refl
 closes host body (Some user) None = refl
@@ -141,20 +141,20 @@ closes host body (Some user) (Some media) = refl
 plain_visible : (b : ℕ) → is_plain_char b ≡ true → is_visible b ≡ true
 plain_visible b is = grind (arith, nat_tests)
 
-visible : (text : List ℕ) → IsPlain text → list_all is_visible text ≡ true
+visible : (text : List ℕ) → IsPlainText text → list_all is_visible text ≡ true
 visible text plain = each_true is_plain_char is_visible plain_visible text plain
 
 in_utf8 : (text : List ℕ) → list_all is_visible text ≡ true → list_all is_visible (encode_utf8_all text) ≡ true
 in_utf8 text seen = ap (list_all is_visible) (visible_utf8 text seen) ∙ seen
 
-are_sent : (host body : List ℕ) (user media : Option (List ℕ)) → list_all is_visible host ≡ true → IfSome user IsPlain → IfSome media IsPlain → length body ≤ 262_144 → AllByRecursion IsSent (fields_from host user media body)
+are_sent : (host body : List ℕ) (user media : Option (List ℕ)) → list_all is_visible host ≡ true → IfSome user IsPlainText → IfSome media IsPlainText → length body ≤ 262_144 → AllByRecursion IsSent (fields_from host user media body)
 unfolding is_token_byte
 are_sent host body user media seen users medias short = (sent (codes "Host") host (omega arith) refl seen, by_user user users)
   where
     ends : AllByRecursion IsSent ((codes "Connection", codes "close") ∷ [])
     ends = (sent (codes "Connection") (codes "close") (omega arith) refl refl, tt)
 
-    by_media : (m : Option (List ℕ)) → IfSome m IsPlain → AllByRecursion IsSent (option_map_or (content_fields body) m [] ++ (codes "Connection", codes "close") ∷ [])
+    by_media : (m : Option (List ℕ)) → IfSome m IsPlainText → AllByRecursion IsSent (option_map_or (content_fields body) m [] ++ (codes "Connection", codes "close") ∷ [])
     by_media None is = ends
     by_media (Some m) is = (
       sent (codes "Content-Type") (encode_utf8_all m) (omega arith) refl (in_utf8 m (visible m is)),
@@ -164,7 +164,7 @@ are_sent host body user media seen users medias short = (sent (codes "Host") hos
       ),
     )
 
-    by_user : (u : Option (List ℕ)) → IfSome u IsPlain → AllByRecursion IsSent (option_map_or user_field u [] ++ (option_map_or (content_fields body) media [] ++ (codes "Connection", codes "close") ∷ []))
+    by_user : (u : Option (List ℕ)) → IfSome u IsPlainText → AllByRecursion IsSent (option_map_or user_field u [] ++ (option_map_or (content_fields body) media [] ++ (codes "Connection", codes "close") ∷ []))
     by_user None is = by_media media medias
     by_user (Some u) is = (sent (codes "X-XCAP-User") (encode_utf8_all u) (omega arith) refl (in_utf8 u (visible u is)), by_media media medias)
 
@@ -197,10 +197,10 @@ request method target closes fields body = record { method = method; target = ta
 same_request : (m m' target body : List ℕ) (c : Bool) (fs gs : List (List ℕ × List ℕ)) → m' ≡ m → c ≡ true → gs ≡ fs → request m target true fs body ≡ request m' target c gs body
 same_request m m' target body c fs gs method closes fields = rw (method, closes, fields) refl
 
-no_body : (ask : Ask) → IsLawful ask → ask.media ≡ None → ask.body ≡ []
+no_body : (ask : Ask) → IsLawfulAsk ask → ask.media ≡ None → ask.body ≡ []
 no_body ask lawful none = lawful.body (λ put. true≢false (sym (subst IsSome none (lawful.media.1 put))))
 
-pub understood : (root : List ℕ) (ask : Ask) → IsRoot root (authority_of root) (path_of root) → IsLawful ask → IsSendable root ask → IsUnderstood root ask
+pub understood : (root : List ℕ) (ask : Ask) → IsRoot root (authority_of root) (path_of root) → IsLawfulAsk ask → IsSendable root ask → IsParsedAsMeant root ask
 understood root ask is lawful sendable =
     let host : List ℕ = encode_utf8_all (authority_of root) in
     let fields : List (List ℕ × List ℕ) = fields_of root ask in
@@ -228,7 +228,7 @@ understood root ask is lawful sendable =
       };
       framed = ap (framing 1) back ∙ framed host ask.body ask.user ask.media (no_body ask lawful) sendable.short_body;
     } in
-    let asked : meant root ask ≡ request_of 0 head ask.body =
+    let asked : request_of_ask root ask ≡ request_of 0 head ask.body =
     same_request ask.method (encode_utf8_all ask.method) target ask.body (asks_to_close (map name_and_value head.fields)) fields (map name_and_value head.fields) method.0 (ap asks_to_close back ∙ closes host ask.body ask.user ask.media) back in
-    let first : AsksFor 0 (head_bytes root ask ++ ask.body) (meant root ask) [] = with_length head ask.body opens asked in
+    let first : AsksFor 0 (head_bytes root ask ++ ask.body) (request_of_ask root ask) [] = with_length head ask.body opens asked in
     ([], first, refl)

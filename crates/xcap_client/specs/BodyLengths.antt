@@ -4,7 +4,7 @@ use Rattle.std.specs.Prelude.{ℕ, ◌+◌, ◌<◌, ◌≤◌, ◌==◌, nat_lt
 use Rattle.std.specs.Prelude.{List, [], ◌∷◌, length, take, codes, Result, Ok, Err}
 use Rattle.std.specs.Str.Parse.{digits_value}
 use Rattle.xml_names.specs.Limits.{u64_max}
-use Rattle.http_wire.specs.Fields.{values_of, is_number}
+use Rattle.http_wire.specs.Fields.{field_values, is_number}
 use Rattle.xcap_client.specs.declared.response_fault.ResponseFault.{ResponseFault}
 use Rattle.xcap_client.specs.declared.response_fault.ResponseFault.TheVariants.{Coding, Length}
 use Rattle.xcap_client.specs.declared.response_fault.ResponseFault.TheVariants.{TooLong, Short}
@@ -17,8 +17,8 @@ abbrev pub capped_value : List ℕ → ℕ
 capped_value digits = min (digits_value 10 digits) u64_max
 
 -- a body of this many bytes, where they are within the limit
-abbrev pub within_limit : ℕ → Result BodyLength ResponseFault
-within_limit n = if nat_lt MAX_RESPONSE_BODY_BYTES n then Err (TooLong n) else Ok (Exactly n)
+abbrev pub exact_body_length : ℕ → Result BodyLength ResponseFault
+exact_body_length n = if nat_lt MAX_RESPONSE_BODY_BYTES n then Err (TooLong n) else Ok (Exactly n)
 
 -- By the values of `Content-Length`: without one the body goes to the end of the bytes; more than
 -- one, or one that is no number, is a fault, also where a status has no body.
@@ -26,33 +26,33 @@ unfoldable pub extent_by_length : Bool → List (List ℕ) → Result BodyLength
 extent_by_length bodiless [] = if bodiless then Ok Empty else Ok ToEnd
 extent_by_length bodiless (value ∷ []) =
     if not (is_number value) then Err Length
-    else if bodiless then Ok Empty else within_limit (capped_value value)
+    else if bodiless then Ok Empty else exact_body_length (capped_value value)
 extent_by_length bodiless (value ∷ other ∷ more) = Err Length
 
 -- By the status, and the names and values of the fields. No transfer coding is accepted. No
 -- Content (204) and Not Modified (304) come without a body.
-unfoldable pub extent_by : ℕ → List (List ℕ × List ℕ) → Result BodyLength ResponseFault
-extent_by status fields =
-    if nat_lt 0 (length (values_of (codes "transfer-encoding") fields)) then Err Coding
+unfoldable pub body_extent : ℕ → List (List ℕ × List ℕ) → Result BodyLength ResponseFault
+body_extent status fields =
+    if nat_lt 0 (length (field_values (codes "transfer-encoding") fields)) then Err Coding
     else extent_by_length ((status == 204) || (status == 304))
-    (values_of (codes "content-length") fields)
+    (field_values (codes "content-length") fields)
 
 -- the body, where these are all bytes after the head
-abbrev pub body_by : BodyLength → List ℕ → Result (List ℕ) ResponseFault
-body_by Empty rest = Ok []
-body_by (Exactly n) rest =
+abbrev pub body_of_extent : BodyLength → List ℕ → Result (List ℕ) ResponseFault
+body_of_extent Empty rest = Ok []
+body_of_extent (Exactly n) rest =
     if nat_lt (length rest) n then Err (Short (length rest) n) else Ok (take n rest)
-body_by ToEnd rest =
+body_of_extent ToEnd rest =
     if nat_lt MAX_RESPONSE_BODY_BYTES (length rest) then Err (TooLong (MAX_RESPONSE_BODY_BYTES + 1))
     else Ok rest
 
 -- the body, where the head may have a fault
-abbrev pub body_to : Result BodyLength ResponseFault → List ℕ → Result (List ℕ) ResponseFault
-body_to (Ok extent) rest = body_by extent rest
-body_to (Err fault) rest = Err fault
+abbrev pub body_result : Result BodyLength ResponseFault → List ℕ → Result (List ℕ) ResponseFault
+body_result (Ok extent) rest = body_of_extent extent rest
+body_result (Err fault) rest = Err fault
 
 -- these bytes after the head don't decide: more are due, or their end
-abbrev pub LacksMore : BodyLength → List ℕ → Type 0
-LacksMore Empty rest = ⊥
-LacksMore (Exactly n) rest = length rest < n
-LacksMore ToEnd rest = length rest ≤ MAX_RESPONSE_BODY_BYTES
+abbrev pub NeedsMoreBody : BodyLength → List ℕ → Type 0
+NeedsMoreBody Empty rest = ⊥
+NeedsMoreBody (Exactly n) rest = length rest < n
+NeedsMoreBody ToEnd rest = length rest ≤ MAX_RESPONSE_BODY_BYTES

@@ -2,13 +2,13 @@
 -- section 15).
 use Rattle.std.specs.Prelude.{◌≡◌, ℕ, Bool, true, false, ◌&&◌, nat_le, List, Option, Result, Ok}
 use Rattle.std.specs.Prelude.{Err}
-use Rattle.xcap_io.specs.Causes.{StreamState}
+use Rattle.xcap_io.specs.StreamStates.{StreamState}
 use Rattle.xcap_client.specs.declared.request.Ask.{Ask}
 use Rattle.xcap_client.specs.declared.response.Response.{Response}
-use Rattle.xcap_client.specs.declared.fault.ClientFault.{ClientFault}
-use Rattle.xcap_client.specs.declared.fault.ClientFault.TheVariants.{NoMemory, Refused}
-use Rattle.xcap_client.specs.Conflicts.{NamesError}
-use Rattle.xcap_client.specs.Exchanges.{Exchanges}
+use Rattle.xcap_client.specs.declared.client_fault.ClientFault.{ClientFault}
+use Rattle.xcap_client.specs.declared.client_fault.ClientFault.TheVariants.{NoMemory, Refused}
+use Rattle.xcap_client.specs.ErrorDocuments.{NamesError}
+use Rattle.xcap_client.specs.Exchanges.{MakesExchange}
 
 -- 2xx (RFC 9110, section 15.3)
 abbrev pub is_success : ℕ → Bool
@@ -16,21 +16,23 @@ is_success status = nat_le 200 status && nat_le status 299
 
 -- A successful response is returned as it came. For any other, its status is returned, and the
 -- error that its body names; but memory may run out while the body is parsed.
-pub data Judges (response : Response) (result : Result Response ClientFault) : Type 0 where
-  succeeds : is_success response.status ≡ true → result ≡ Ok response → Judges response result
+pub data JudgesResponse (response : Response) (result : Result Response ClientFault) : Type 0 where
+  succeeds : is_success response.status ≡ true → result ≡ Ok response
+      → JudgesResponse response result
   refuses : (name : Option (List ℕ)) → is_success response.status ≡ false
       → NamesError response.body name
-      → result ≡ Err (Refused response.status name) → Judges response result
-  lacks_memory : is_success response.status ≡ false → result ≡ Err NoMemory → Judges response result
+      → result ≡ Err (Refused response.status name) → JudgesResponse response result
+  lacks_memory : is_success response.status ≡ false → result ≡ Err NoMemory
+      → JudgesResponse response result
 
 -- the result of an exchange, judged: a fault is returned as it is
-abbrev pub JudgesAll : Result Response ClientFault → Result Response ClientFault → Type 0
-JudgesAll (Ok response) result = Judges response result
-JudgesAll (Err fault) result = result ≡ Err fault
+abbrev pub JudgesExchange : Result Response ClientFault → Result Response ClientFault → Type 0
+JudgesExchange (Ok response) result = JudgesResponse response result
+JudgesExchange (Err fault) result = result ≡ Err fault
 
 -- A call: one exchange, whose result is judged.
-pub record Calls (root : List ℕ) (ask : Ask) (old new : StreamState)
+pub record MakesCall (root : List ℕ) (ask : Ask) (old new : StreamState)
     (result : Result Response ClientFault) : Type 0 where
   pub given : Result Response ClientFault
-  pub exchanges : Exchanges root ask old new given
-  pub judged : JudgesAll given result
+  pub exchanges : MakesExchange root ask old new given
+  pub judged : JudgesExchange given result

@@ -5,7 +5,7 @@ use Rattle.std.specs.Prelude.{length, codes}
 use Rattle.std.specs.List.{list_any, list_all}
 use Rattle.std.specs.Char.{is_ascii_alphanumeric}
 use Rattle.http_wire.specs.declared.request.Request.{Request}
-use Rattle.http_wire.specs.Items.{asks, field_of, IsItemSequence}
+use Rattle.http_wire.specs.ConnectionItems.{asks, field_of, IsItemSequence}
 use Rattle.http_wire.specs.declared.limits.TheConstants.{MAX_BODY_BYTES, MAX_HEAD_BYTES}
 use Rattle.xcap_client.specs.declared.request.Ask.{Ask}
 use Rattle.xcap_client.specs.Requests.{target_of, fields_of, head_bytes, request_bytes}
@@ -14,22 +14,22 @@ use Rattle.xcap_client.specs.Requests.{target_of, fields_of, head_bytes, request
 abbrev pub is_plain_char : ℕ → Bool
 is_plain_char c = is_ascii_alphanumeric c || list_any (λ d. c == d) (codes "/:@.-_~%=()?*+")
 
-abbrev pub IsPlain : List ℕ → Type 0
-IsPlain text = list_all is_plain_char text ≡ true
+abbrev pub IsPlainText : List ℕ → Type 0
+IsPlainText text = list_all is_plain_char text ≡ true
 
 -- the method is one of three, the texts are plain, and the lengths are within the server's limits
 pub record IsSendable (root : List ℕ) (ask : Ask) : Type 0 where
   pub method : (ask.method ≡ codes "GET")
       ⊎ ((ask.method ≡ codes "PUT") ⊎ (ask.method ≡ codes "DELETE"))
-  pub path : IsPlain ask.path
-  pub user : IfSome ask.user IsPlain
-  pub media : IfSome ask.media IsPlain
+  pub path : IsPlainText ask.path
+  pub user : IfSome ask.user IsPlainText
+  pub media : IfSome ask.media IsPlainText
   pub short_body : length ask.body ≤ MAX_BODY_BYTES
   pub short_head : length (head_bytes root ask) ≤ MAX_HEAD_BYTES
 
 -- the request that is meant: one that ends its connection, with the fields that were written
-abbrev pub meant : List ℕ → Ask → Request
-meant root ask = record {
+abbrev pub request_of_ask : List ℕ → Ask → Request
+request_of_ask root ask = record {
   method = ask.method;
   target = target_of root ask;
   closes = true;
@@ -38,5 +38,6 @@ meant root ask = record {
 }
 
 -- the bytes of a connection are that request and nothing else
-abbrev pub IsUnderstood : List ℕ → Ask → Type 0
-IsUnderstood root ask = IsItemSequence 0 (request_bytes root ask) (asks (meant root ask) ∷ [])
+abbrev pub IsParsedAsMeant : List ℕ → Ask → Type 0
+IsParsedAsMeant root ask =
+    IsItemSequence 0 (request_bytes root ask) (asks (request_of_ask root ask) ∷ [])

@@ -8,7 +8,7 @@ use Rattle.xcap_uri.specs.Roots.{authority_of, path_of, slash}
 use Rattle.xcap_client.specs.declared.request.Ask.{Ask}
 
 -- it has a media type exactly where its method is PUT, and with no other method it has a body
-pub record IsLawful (ask : Ask) : Type 0 where
+pub record IsLawfulAsk (ask : Ask) : Type 0 where
   pub media : IsSome ask.media ↔ (ask.method ≡ codes "PUT")
   pub body : ask.method ≢ codes "PUT" → ask.body ≡ []
 

@@ -2,22 +2,22 @@
 -- to 6), and the result of a call that reads them. Of a connection only the bytes count that were
 -- given on it, and whether a read found their end; so this also says what came over a real socket.
 use Rattle.std.specs.Prelude.{◌≡◌, ℕ, ◌⊎◌, Bool, true, List, ◌++◌, map, Option, Result, Ok, Err}
-use Rattle.xcap_io.specs.Causes.{InputState}
-use Rattle.xcap_io.specs.StreamTraffic.{Gave}
+use Rattle.xcap_io.specs.StreamStates.{InputState}
+use Rattle.xcap_io.specs.StreamTraffic.{GivesBytes}
 use Rattle.httparse.specs.Grammar.{ResponseHead, status_code}
 use Rattle.httparse.specs.Spans.{name_and_value}
 use Rattle.xcap_client.specs.declared.response_fault.ResponseFault.{ResponseFault}
 use Rattle.xcap_client.specs.declared.response_fault.ResponseFault.TheVariants.{Head}
 use Rattle.xcap_client.specs.declared.body_length.BodyLength.{BodyLength}
 use Rattle.xcap_client.specs.declared.response.Response.{Response}
-use Rattle.xcap_client.specs.Stops.{ByCause}
-use Rattle.xcap_client.specs.Heads.{BeginsWithHead, HasNoHead}
-use Rattle.xcap_client.specs.Tags.{TagIs}
-use Rattle.xcap_client.specs.BodyLengths.{extent_by, body_to, LacksMore}
+use Rattle.xcap_client.specs.ReadFaults.{HoldsByCause}
+use Rattle.xcap_client.specs.ResponseHeads.{BeginsWithHead, HasNoHead}
+use Rattle.xcap_client.specs.ResponseTags.{IsTagOf}
+use Rattle.xcap_client.specs.BodyLengths.{body_extent, body_result, NeedsMoreBody}
 
 -- the length of the body after the head
 abbrev pub extent_of : ResponseHead → Result BodyLength ResponseFault
-extent_of head = extent_by (status_code head) (map name_and_value head.fields)
+extent_of head = body_extent (status_code head) (map name_and_value head.fields)
 
 -- the response with that head, tag and body
 abbrev pub response_of : ResponseHead → Option (List ℕ) → List ℕ → Response
@@ -29,16 +29,17 @@ pub data IsResponseOf (bytes : List ℕ) (answer : Result Response ResponseFault
   no_head : HasNoHead bytes → answer ≡ Err Head → IsResponseOf bytes answer
   refused : (head : ResponseHead) (rest : List ℕ) (fault : ResponseFault)
       → BeginsWithHead bytes head rest
-      → body_to (extent_of head) rest ≡ Err fault → answer ≡ Err fault → IsResponseOf bytes answer
+      → body_result (extent_of head) rest ≡ Err fault → answer ≡ Err fault
+      → IsResponseOf bytes answer
   responds : (head : ResponseHead) (rest : List ℕ) (tag : Option (List ℕ)) (body : List ℕ)
       → BeginsWithHead bytes head rest
-      → TagIs (map name_and_value head.fields) tag → body_to (extent_of head) rest ≡ Ok body
+      → IsTagOf (map name_and_value head.fields) tag → body_result (extent_of head) rest ≡ Ok body
       → answer ≡ Ok (response_of head tag body) → IsResponseOf bytes answer
 
 -- These bytes were given, and this is the meaning of the connection's bytes: however they go on,
 -- or as a read found their end.
-abbrev pub IsDecided : List ℕ → Bool → Result Response ResponseFault → Type 0
-IsDecided given ended answer =
+abbrev pub IsDecidedResponse : List ℕ → Bool → Result Response ResponseFault → Type 0
+IsDecidedResponse given ended answer =
     ((more : List ℕ) → IsResponseOf (given ++ more) answer)
     ⊎ ((ended ≡ true) × IsResponseOf given answer)
 
@@ -47,12 +48,12 @@ pub data DecidesNothing (bytes : List ℕ) : Type 0 where
   lacks_head : HasNoHead bytes → DecidesNothing bytes
   lacks_body : (head : ResponseHead) (rest : List ℕ) (extent : BodyLength)
       → BeginsWithHead bytes head rest
-      → extent_of head ≡ Ok extent → LacksMore extent rest → DecidesNothing bytes
+      → extent_of head ≡ Ok extent → NeedsMoreBody extent rest → DecidesNothing bytes
 
 -- Bytes were read from the source, and the result is their meaning; where a read failed, they
 -- don't decide.
-pub record AnswersRead (source source' : InputState)
+pub record ReadsAnswer (source source' : InputState)
     (result : Result Response ResponseFault) : Type 0 where
   pub read : List ℕ
-  pub given : Gave source source' read
-  pub answer : ByCause result (DecidesNothing read) (IsDecided read source'.ended)
+  pub given : GivesBytes source source' read
+  pub answer : HoldsByCause result (DecidesNothing read) (IsDecidedResponse read source'.ended)

@@ -1,5 +1,5 @@
 -- What private functions and proofs use. No clause of a public call needs it.
 pub mod FillErrors
+pub mod QuotedTags
 pub mod ReadBuffer
-pub mod Responses
-pub mod Tags
+pub mod ResponseBodies

@@ -1,6 +1,6 @@
 // The address of a root's connections.
 ghost use Rattle.std.specs.Prelude.{◌≡◌, IfOk};
-ghost use Rattle.xcap_client.specs.Addresses.{names_port, address_of};
+ghost use Rattle.xcap_client.specs.ServerAddresses.{has_port, address_of};
 
 use std::alloc::Global;
 use xcap_io::NoMemory;
@@ -8,8 +8,8 @@ use xcap_uri::Root;
 use xml_names::Text;
 
 // Whether a port comes after the host, which may be an IPv6 literal in brackets.
-fn names_port(authority: &[u8]) -> bool
-    ensures exact { result ≡ names_port authority.now }
+fn has_port(authority: &[u8]) -> bool
+    ensures exact { result ≡ has_port authority.now }
 {
     let mut rest = authority;
     'host: while let [front @ .., last] = rest {
@@ -29,7 +29,7 @@ pub fn address_of(alloc: Global, root: &Root) -> Result<Text, NoMemory>
     ensures ok { IfOk result (λ address. address ≡ address_of root.now) }
 {
     let mut address = Text::from(alloc, root.authority())?;
-    if !names_port(root.authority().as_bytes()) {
+    if !has_port(root.authority().as_bytes()) {
         address.push_str(":80")?;
     }
     Ok(address)

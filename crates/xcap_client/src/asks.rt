@@ -1,7 +1,7 @@
 // The requests of the client's calls.
 ghost use Rattle.std.specs.Prelude.{◌≡◌, chars, option_map, IfOk};
-ghost use Rattle.xcap_client.specs.Requests.{IsLawful};
-ghost use Rattle.xcap_client.specs.Asks.{bare, get_ask, delete_ask, put_ask};
+ghost use Rattle.xcap_client.specs.Requests.{IsLawfulAsk};
+ghost use Rattle.xcap_client.specs.Asks.{bodiless_ask, get_ask, delete_ask, put_ask};
 
 use crate::Ask;
 use std::alloc::Global;
@@ -22,9 +22,15 @@ pub fn copy_user(alloc: Global, user: Option<&str>) -> Result<Option<Text>, NoMe
 }
 
 // A request without a body.
-fn bare(alloc: Global, method: &str, user: Option<&str>, path: &str) -> Result<Ask, NoMemory>
+fn bodiless_ask(
+    alloc: Global,
+    method: &str,
+    user: Option<&str>,
+    path: &str,
+) -> Result<Ask, NoMemory>
     ensures ok { IfOk result
-        (λ ask. ask ≡ bare (chars method.now) (option_map (λ name. chars name.now) user.entry)
+        (λ ask. ask
+        ≡ bodiless_ask (chars method.now) (option_map (λ name. chars name.now) user.entry)
         (chars path.now)) }
 {
     Ok(Ask {
@@ -39,17 +45,18 @@ fn bare(alloc: Global, method: &str, user: Option<&str>, path: &str) -> Result<A
 pub fn get_ask(alloc: Global, user: Option<&str>, path: &str) -> Result<Ask, NoMemory>
     ensures ok { IfOk result
         (λ ask. ask ≡ get_ask (option_map (λ name. chars name.now) user.entry) (chars path.now)) }
-    ensures lawful_ask { IfOk result IsLawful }
+    ensures lawful_ask { IfOk result IsLawfulAsk }
 {
-    bare(alloc, "GET", user, path)
+    bodiless_ask(alloc, "GET", user, path)
 }
 
 pub fn delete_ask(alloc: Global, user: Option<&str>, path: &str) -> Result<Ask, NoMemory>
     ensures ok { IfOk result
-        (λ ask. ask ≡ delete_ask (option_map (λ name. chars name.now) user.entry) (chars path.now)) }
-    ensures lawful_ask { IfOk result IsLawful }
+        (λ ask. ask
+        ≡ delete_ask (option_map (λ name. chars name.now) user.entry) (chars path.now)) }
+    ensures lawful_ask { IfOk result IsLawfulAsk }
 {
-    bare(alloc, "DELETE", user, path)
+    bodiless_ask(alloc, "DELETE", user, path)
 }
 
 pub fn put_ask(
@@ -62,11 +69,11 @@ pub fn put_ask(
     ensures ok { IfOk result
         (λ ask. ask ≡ put_ask (option_map (λ name. chars name.now) user.entry) (chars path.now)
         (chars media.now) body.now) }
-    ensures lawful_ask { IfOk result IsLawful }
+    ensures lawful_ask { IfOk result IsLawfulAsk }
 {
     let media = Text::from(alloc, media)?;
     let body = Bytes::from(alloc, body)?;
-    let mut ask = bare(alloc, "PUT", user, path)?;
+    let mut ask = bodiless_ask(alloc, "PUT", user, path)?;
     ask.media = Some(media);
     ask.body = body;
     Ok(ask)

@@ -2,13 +2,13 @@
 ghost use Rattle.std.specs.Prelude.{◌≡◌, ℕ, List, [], ◌∷◌, All, map, length, IfErr, Some, None};
 ghost use Rattle.std.specs.Prelude.{if◌then◌else◌};
 ghost use Rattle.httparse.specs.Spans.{IsHeaderWithin, header_bytes};
-ghost use Rattle.http_wire.specs.Fields.{is_number, Found};
-ghost use Rattle.xcap_client.specs.inner.FillErrors.{IsOfFields};
-ghost use Rattle.xcap_client.specs.BodyLengths.{capped_value, within_limit, extent_by_length};
-ghost use Rattle.xcap_client.specs.BodyLengths.{extent_by};
+ghost use Rattle.http_wire.specs.Fields.{is_number, IsLookupOf};
+ghost use Rattle.xcap_client.specs.inner.FillErrors.{IsFieldFault};
+ghost use Rattle.xcap_client.specs.BodyLengths.{capped_value, exact_body_length, extent_by_length};
+ghost use Rattle.xcap_client.specs.BodyLengths.{body_extent};
 
 use crate::ResponseFault;
-use http_wire::{FieldLookup, find};
+use http_wire::{FieldLookup, find_field};
 use httparse::spans::HeaderSpan;
 
 /// The greatest length of a response's body, in bytes: 16,777,216. It is this client's own limit; a
@@ -46,9 +46,9 @@ fn capped_number(digits: &[u8]) -> Option<u64>
     Some(value)
 }
 
-fn within_limit(len: u64) -> Result<BodyLength, ResponseFault>
-    ensures fields_extent { result ≡ within_limit len }
-    ensures err_of_fields { IfErr result IsOfFields }
+fn exact_body_length(len: u64) -> Result<BodyLength, ResponseFault>
+    ensures fields_extent { result ≡ exact_body_length len }
+    ensures err_of_fields { IfErr result IsFieldFault }
 {
     if len > MAX_RESPONSE_BODY_BYTES as u64 {
         return Err(ResponseFault::TooLong(len));
@@ -57,45 +57,45 @@ fn within_limit(len: u64) -> Result<BodyLength, ResponseFault>
 }
 
 #[tactic(auto, unfolding(crate::specs::BodyLengths::extent_by_length))]
-fn length_once(bodiless: bool, value: &[u8]) -> Result<BodyLength, ResponseFault>
+fn single_length(bodiless: bool, value: &[u8]) -> Result<BodyLength, ResponseFault>
     ensures fields_extent { result ≡ extent_by_length bodiless (value.now ∷ []) }
-    ensures err_of_fields { IfErr result IsOfFields }
+    ensures err_of_fields { IfErr result IsFieldFault }
 {
     match capped_number(value) {
         None => Err(ResponseFault::Length),
         Some(_) if bodiless => Ok(BodyLength::Empty),
-        Some(len) => within_limit(len),
+        Some(len) => exact_body_length(len),
     }
 }
 
 #[tactic(auto, unfolding(crate::specs::BodyLengths::extent_by_length))]
 fn extent_by_length(bodiless: bool, lengths: FieldLookup) -> Result<BodyLength, ResponseFault>
-    ensures err_of_fields { IfErr result IsOfFields }
-    ensures fields_extent { (values : List (List ℕ)) → Found lengths.entry values
+    ensures err_of_fields { IfErr result IsFieldFault }
+    ensures fields_extent { (values : List (List ℕ)) → IsLookupOf lengths.entry values
         → result ≡ extent_by_length bodiless values }
 {
     match lengths {
         FieldLookup::Absent if bodiless => Ok(BodyLength::Empty),
         FieldLookup::Absent => Ok(BodyLength::ToEnd),
-        FieldLookup::Once(value) => length_once(bodiless, value),
+        FieldLookup::Once(value) => single_length(bodiless, value),
         FieldLookup::Repeated => Err(ResponseFault::Length),
     }
 }
 
 // The length of the body after a head with this status.
-#[tactic(auto, unfolding(crate::specs::BodyLengths::extent_by))]
+#[tactic(auto, unfolding(crate::specs::BodyLengths::body_extent))]
 pub fn read_body_length(
     buf: &[u8],
     headers: &[HeaderSpan],
     status: u16,
 ) -> Result<BodyLength, ResponseFault>
     requires { All (IsHeaderWithin (length buf.now)) headers.now }
-    ensures err_of_fields { IfErr result IsOfFields }
-    ensures fields_extent { result ≡ extent_by status (map (header_bytes buf.now) headers.now) }
+    ensures err_of_fields { IfErr result IsFieldFault }
+    ensures fields_extent { result ≡ body_extent status (map (header_bytes buf.now) headers.now) }
 {
-    let FieldLookup::Absent = find(buf, headers, b"transfer-encoding") else {
+    let FieldLookup::Absent = find_field(buf, headers, b"transfer-encoding") else {
         return Err(ResponseFault::Coding);
     };
     let bodiless = status == 204 || status == 304;
-    extent_by_length(bodiless, find(buf, headers, b"content-length"))
+    extent_by_length(bodiless, find_field(buf, headers, b"content-length"))
 }

@@ -1,11 +1,11 @@
 // The calls that fetch, put and remove a resource at a path under the root (RFC 4825, section 7).
 ghost use Rattle.std.specs.Prelude.{◌≡◌, chars, option_map};
-ghost use Rattle.xcap_client.specs.Requests.{IsLawful};
+ghost use Rattle.xcap_client.specs.Requests.{IsLawfulAsk};
 ghost use Rattle.xcap_client.specs.Asks.{get_ask, delete_ask, put_ask};
-ghost use Rattle.xcap_client.specs.Calls.{Calls, Judges, is_success};
+ghost use Rattle.xcap_client.specs.Calls.{MakesCall, JudgesResponse, is_success};
 
 use crate::asks::{delete_ask, get_ask, put_ask};
-use crate::conflicts::error_document_of;
+use crate::error_documents::error_name_of;
 use crate::exchanges::exchange;
 use crate::{Ask, ClientFault, Response};
 use std::alloc::Global;
@@ -19,28 +19,28 @@ fn is_success(status: u16) -> bool
 }
 
 // A successful response as it came; `Refused` for any other.
-fn judge(alloc: Global, response: Response) -> Result<Response, ClientFault>
-    ensures judged_by_status { Judges response result }
+fn judge_response(alloc: Global, response: Response) -> Result<Response, ClientFault>
+    ensures judged_by_status { JudgesResponse response result }
 {
     if is_success(response.status) {
         return Ok(response);
     }
-    let name = error_document_of(alloc, response.body.as_slice())?;
+    let name = error_name_of(alloc, response.body.as_slice())?;
     Err(ClientFault::Refused(response.status, name))
 }
 
-fn call<C: Peer>(
+fn make_call<C: Peer>(
     alloc: Global,
     peer: &mut C,
     root: &Root,
     ask: &Ask,
 ) -> Result<Response, ClientFault>
-    requires { IsLawful ask.now }
-    ensures one_exchange_judged { Calls root.now ask.now (C.state peer.old)
+    requires { IsLawfulAsk ask.now }
+    ensures one_exchange_judged { MakesCall root.now ask.now (C.state peer.old)
         (C.state peer.new) result }
 {
     let response = exchange(alloc, peer, root, ask)?;
-    judge(alloc, response)
+    judge_response(alloc, response)
 }
 
 /// Fetches the resource at the path. The response has a status of 2xx.
@@ -56,12 +56,12 @@ pub fn fetch<C: Peer>(
     user: Option<&str>,
     path: &str,
 ) -> Result<Response, ClientFault>
-    ensures calls_get { Calls root.now
+    ensures calls_get { MakesCall root.now
         (get_ask (option_map (λ name. chars name.now) user.entry) (chars path.now))
         (C.state peer.old) (C.state peer.new) result }
 {
     let ask = get_ask(alloc, user, path)?;
-    call(alloc, peer, root, &ask)
+    make_call(alloc, peer, root, &ask)
 }
 
 /// Puts a resource at the path. The response has a status of 2xx.
@@ -77,12 +77,12 @@ pub fn put<C: Peer>(
     media: &str,
     body: &[u8],
 ) -> Result<Response, ClientFault>
-    ensures calls_put { Calls root.now
+    ensures calls_put { MakesCall root.now
         (put_ask (option_map (λ name. chars name.now) user.entry) (chars path.now)
         (chars media.now) body.now) (C.state peer.old) (C.state peer.new) result }
 {
     let ask = put_ask(alloc, user, path, media, body)?;
-    call(alloc, peer, root, &ask)
+    make_call(alloc, peer, root, &ask)
 }
 
 /// Removes the resource at the path. The response has a status of 2xx.
@@ -96,10 +96,10 @@ pub fn remove<C: Peer>(
     user: Option<&str>,
     path: &str,
 ) -> Result<Response, ClientFault>
-    ensures calls_delete { Calls root.now
+    ensures calls_delete { MakesCall root.now
         (delete_ask (option_map (λ name. chars name.now) user.entry) (chars path.now))
         (C.state peer.old) (C.state peer.new) result }
 {
     let ask = delete_ask(alloc, user, path)?;
-    call(alloc, peer, root, &ask)
+    make_call(alloc, peer, root, &ask)
 }

@@ -4,10 +4,10 @@ ghost use Rattle.std.specs.Prelude.{MatchOption, Some};
 ghost use Rattle.std.specs.List.{list_all};
 ghost use Rattle.httparse.specs.Spans.{IsHeaderWithin, header_bytes};
 ghost use Rattle.request_checks.specs.Tags.{is_tag_byte};
-ghost use Rattle.xcap_client.specs.Tags.{IsTagWith, TagIs};
-ghost use Rattle.xcap_client.specs.inner.Tags.{IsQuoted};
+ghost use Rattle.xcap_client.specs.ResponseTags.{IsEntityTagOf, IsTagOf};
+ghost use Rattle.xcap_client.specs.inner.QuotedTags.{IsQuotedTag};
 
-use http_wire::{FieldLookup, find};
+use http_wire::{FieldLookup, find_field};
 use httparse::spans::HeaderSpan;
 use request_checks::is_tag_byte;
 use std::alloc::Global;
@@ -22,7 +22,7 @@ fn are_tag_bytes(bytes: &[u8]) -> bool
 }
 
 // The text between the quotes, where there is a quote at both ends.
-fn between_quotes(text: &[u8]) -> Option<&[u8]>
+fn strip_quotes(text: &[u8]) -> Option<&[u8]>
     ensures enclosed_or_none { MatchOption result
         ((opaque : List ℕ) → ¬ (text.now ≡ 34 ∷ (opaque ++ 34 ∷ [])))
         (λ opaque. text.now ≡ 34 ∷ (opaque.now ++ 34 ∷ [])) }
@@ -35,19 +35,21 @@ fn between_quotes(text: &[u8]) -> Option<&[u8]>
 
 // The text between the quotes, where each byte is allowed in a tag.
 fn unquote(text: &[u8]) -> Option<&[u8]>
-    ensures quoted_or_none { MatchOption result ((opaque : List ℕ) → ¬ (IsQuoted text.now opaque))
-        (λ opaque. IsQuoted text.now opaque.now) }
+    ensures quoted_or_none { MatchOption result
+        ((opaque : List ℕ) → ¬ (IsQuotedTag text.now opaque))
+        (λ opaque. IsQuotedTag text.now opaque.now) }
 {
-    match between_quotes(text) {
+    match strip_quotes(text) {
         Some(opaque) if are_tag_bytes(opaque) => Some(opaque),
         _ => None,
     }
 }
 
 // The text between the quotes of an entity tag, weak or not.
-fn opaque_of(value: &[u8]) -> Option<&[u8]>
-    ensures opaque_or_none { MatchOption result ((opaque : List ℕ) → ¬ (IsTagWith value.now opaque))
-        (λ opaque. IsTagWith value.now opaque.now) }
+fn opaque_tag(value: &[u8]) -> Option<&[u8]>
+    ensures opaque_or_none { MatchOption result
+        ((opaque : List ℕ) → ¬ (IsEntityTagOf value.now opaque))
+        (λ opaque. IsEntityTagOf value.now opaque.now) }
 {
     match value {
         [b'W', b'/', text @ ..] => unquote(text),
@@ -58,12 +60,12 @@ fn opaque_of(value: &[u8]) -> Option<&[u8]>
 // The entity tag of the fields, if they have one.
 pub fn read_tag(alloc: Global, buf: &[u8], headers: &[HeaderSpan]) -> Result<Option<Text>, NoMemory>
     requires { All (IsHeaderWithin (length buf.now)) headers.now }
-    ensures tag_or_none { IfOk result (TagIs (map (header_bytes buf.now) headers.now)) }
+    ensures tag_or_none { IfOk result (IsTagOf (map (header_bytes buf.now) headers.now)) }
 {
-    let FieldLookup::Once(value) = find(buf, headers, b"etag") else {
+    let FieldLookup::Once(value) = find_field(buf, headers, b"etag") else {
         return Ok(None);
     };
-    let Some(opaque) = opaque_of(value) else {
+    let Some(opaque) = opaque_tag(value) else {
         return Ok(None);
     };
     match from_utf8(opaque) {

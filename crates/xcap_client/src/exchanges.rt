@@ -1,6 +1,6 @@
 // One exchange over a connection of its own.
-ghost use Rattle.xcap_client.specs.Requests.{IsLawful};
-ghost use Rattle.xcap_client.specs.Exchanges.{Exchanges};
+ghost use Rattle.xcap_client.specs.Requests.{IsLawfulAsk};
+ghost use Rattle.xcap_client.specs.Exchanges.{MakesExchange};
 
 use crate::address::address_of;
 use crate::{Ask, ClientFault, Response, read_response, write_request};
@@ -15,8 +15,9 @@ pub fn exchange<C: Peer>(
     root: &Root,
     ask: &Ask,
 ) -> Result<Response, ClientFault>
-    requires { IsLawful ask.now }
-    ensures one_exchange { Exchanges root.now ask.now (C.state peer.old) (C.state peer.new) result }
+    requires { IsLawfulAsk ask.now }
+    ensures one_exchange { MakesExchange root.now ask.now (C.state peer.old) (C.state peer.new)
+        result }
 {
     let address = address_of(alloc, root)?;
     peer.connect(address.as_str())?;

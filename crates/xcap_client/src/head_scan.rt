@@ -1,10 +1,10 @@
 // The head of a response at the front of bytes (RFC 9112, sections 2, 4 and 5).
 ghost use Rattle.std.specs.Prelude.{◌≡◌, ◌<◌, ◌≤◌, length, take, IfOk, OnErr};
-ghost use Rattle.xcap_io.specs.Causes.{Reads};
-ghost use Rattle.http_wire.specs.inner.ReadBuffer.{Gains};
-ghost use Rattle.xcap_client.specs.inner.FillErrors.{CountsStop};
-ghost use Rattle.xcap_client.specs.Heads.{HasNoHead};
-ghost use Rattle.xcap_client.specs.inner.ReadBuffer.{IsFront, HeadOrNone};
+ghost use Rattle.xcap_io.specs.StreamStates.{DiffersByReads};
+ghost use Rattle.http_wire.specs.inner.ReadBuffer.{BuffersMore};
+ghost use Rattle.xcap_client.specs.inner.FillErrors.{CountsFillError};
+ghost use Rattle.xcap_client.specs.ResponseHeads.{HasNoHead};
+ghost use Rattle.xcap_client.specs.inner.ReadBuffer.{IsHeadScan, IsHeadOrNone};
 
 use crate::read_buffer::ReadBuffer;
 use crate::response_fault::FillError;
@@ -25,7 +25,7 @@ pub enum HeadScan {
 
 fn scan_head(bytes: &[u8], headers: &mut [HeaderSpan]) -> HeadScan
     requires { length headers.old ≡ MAX_FIELD_LINES }
-    ensures head_of_bytes { IsFront bytes.now headers.new result }
+    ensures head_of_bytes { IsHeadScan bytes.now headers.new result }
 {
     let start = &bytes[..bytes.len().min(MAX_HEAD_BYTES)];
     match parse_response(start, headers) {
@@ -38,11 +38,11 @@ fn scan_head(bytes: &[u8], headers: &mut [HeaderSpan]) -> HeadScan
 
 // Scans again after a read. A head ends with a line feed: where the first bytes had no head, and
 // no line feed came after them, there is still none.
-fn look_on(bytes: &[u8], seen: usize, headers: &mut [HeaderSpan]) -> HeadScan
+fn rescan_head(bytes: &[u8], seen: usize, headers: &mut [HeaderSpan]) -> HeadScan
     requires slots { length headers.old ≡ MAX_FIELD_LINES }
     requires inside { seen ≤ length bytes.now }
     requires no_head_yet { HasNoHead (take seen bytes.now) }
-    ensures head_of_all { IsFront bytes.now headers.new result }
+    ensures head_of_all { IsHeadScan bytes.now headers.new result }
 {
     if bytes.len() < MAX_HEAD_BYTES && !bytes[seen..].contains(&b'\n') {
         return HeadScan::Open;
@@ -57,18 +57,19 @@ pub fn read_head<S: Source>(
     headers: &mut [HeaderSpan],
 ) -> Result<Option<ResponseSpans>, FillError>
     requires { length headers.old ≡ MAX_FIELD_LINES }
-    ensures gains_source_bytes { Gains read_buffer.old read_buffer.new (S.state source.old).inward
+    ensures gains_source_bytes { BuffersMore read_buffer.old read_buffer.new
+        (S.state source.old).inward
         (S.state source.new).inward }
     ensures head_or_none { IfOk result
-        (HeadOrNone read_buffer.new (S.state source.new).inward headers.new) }
+        (IsHeadOrNone read_buffer.new (S.state source.new).inward headers.new) }
     ensures err_before_head { OnErr result (HasNoHead read_buffer.new) }
-    ensures only_reads { Reads (S.state source.old) (S.state source.new) }
-    ensures faults_never_fall { CountsStop (S.state source.old).read_faults
+    ensures only_reads { DiffersByReads (S.state source.old) (S.state source.new) }
+    ensures faults_never_fall { CountsFillError (S.state source.old).read_faults
         (S.state source.new).read_faults result }
 {
     let mut seen = 0;
     'looking: loop {
-        match look_on(read_buffer.bytes(), seen, headers) {
+        match rescan_head(read_buffer.bytes(), seen, headers) {
             HeadScan::Head(spans) => return Ok(Some(spans)),
             HeadScan::Hopeless => return Ok(None),
             HeadScan::Open => {

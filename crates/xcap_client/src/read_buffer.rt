@@ -1,8 +1,9 @@
 // The bytes of a connection that were read and not yet consumed.
 ghost use Rattle.std.specs.Prelude.{◌≡◌, ◌<◌, ◌≤◌, [], length, drop, take, IfOk, OnOk, OnErr};
-ghost use Rattle.xcap_io.specs.Causes.{Reads};
-ghost use Rattle.http_wire.specs.inner.ReadBuffer.{Gains, GainedOrEnded, HoldsOrEnded};
-ghost use Rattle.xcap_client.specs.inner.FillErrors.{CountsStop};
+ghost use Rattle.xcap_io.specs.StreamStates.{DiffersByReads};
+ghost use Rattle.http_wire.specs.inner.ReadBuffer.{BuffersMore, BuffersMoreOrEnds};
+ghost use Rattle.http_wire.specs.inner.ReadBuffer.{BuffersEnoughOrEnds};
+ghost use Rattle.xcap_client.specs.inner.FillErrors.{CountsFillError};
 
 use crate::response_fault::FillError;
 use std::alloc::Global;
@@ -75,24 +76,24 @@ impl ReadBuffer {
     }
 
     // The first bytes, in the buffer itself.
-    pub fn split_to_front(self, count: usize) -> Bytes
+    pub fn into_first_bytes(self, count: usize) -> Bytes
         requires { count ≤ length self }
         ensures exact { result ≡ take count self }
     {
         let mut buffer = self.buffer;
         buffer.truncate(count);
-        Bytes::own(buffer)
+        Bytes::from_vec(buffer)
     }
 
     // One read. False at the end of the source.
     pub fn fill<S: Source>(&mut self, source: &mut S) -> Result<bool, FillError>
-        ensures gains_source_bytes { Gains self.old self.new (S.state source.old).inward
+        ensures gains_source_bytes { BuffersMore self.old self.new (S.state source.old).inward
             (S.state source.new).inward }
         ensures gained_or_ended { IfOk result
-            (λ more. GainedOrEnded more self.old self.new (S.state source.new).inward) }
+            (λ more. BuffersMoreOrEnds more self.old self.new (S.state source.new).inward) }
         ensures err_unchanged { OnErr result (self.new ≡ self.old) }
-        ensures only_reads { Reads (S.state source.old) (S.state source.new) }
-        ensures faults_never_fall { CountsStop (S.state source.old).read_faults
+        ensures only_reads { DiffersByReads (S.state source.old) (S.state source.new) }
+        ensures faults_never_fall { CountsFillError (S.state source.old).read_faults
             (S.state source.new).read_faults result }
     {
         make_room(&mut self.buffer, self.held)?;
@@ -107,13 +108,13 @@ impl ReadBuffer {
 
     // Reads until there are at least `count` bytes. False where the source ends before.
     pub fn fill_to<S: Source>(&mut self, source: &mut S, count: usize) -> Result<bool, FillError>
-        ensures gains_source_bytes { Gains self.old self.new (S.state source.old).inward
+        ensures gains_source_bytes { BuffersMore self.old self.new (S.state source.old).inward
             (S.state source.new).inward }
         ensures enough_or_ended { IfOk result
-            (λ enough. HoldsOrEnded enough count self.new (S.state source.new).inward) }
+            (λ enough. BuffersEnoughOrEnds enough count self.new (S.state source.new).inward) }
         ensures err_before_enough { OnErr result (length self.new < count) }
-        ensures only_reads { Reads (S.state source.old) (S.state source.new) }
-        ensures faults_never_fall { CountsStop (S.state source.old).read_faults
+        ensures only_reads { DiffersByReads (S.state source.old) (S.state source.new) }
+        ensures faults_never_fall { CountsFillError (S.state source.old).read_faults
             (S.state source.new).read_faults result }
     {
         'reading: while self.len() < count {

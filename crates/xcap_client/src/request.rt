@@ -1,10 +1,10 @@
 // A request, and how it is written to a connection.
 ghost use Rattle.std.specs.Prelude.{◌≡◌, ◌++◌, [], ℕ, List, flat_map, decimal, length};
 ghost use Rattle.std.specs.Option.{option_map_or};
-ghost use Rattle.xcap_io.specs.Adds.{Adds};
-ghost use Rattle.xcap_io.specs.Causes.{OnlyWrites};
-ghost use Rattle.xcap_io.specs.Streams.{WritesAll};
-ghost use Rattle.xcap_client.specs.Requests.{IsLawful, user_field, content_fields, field_line};
+ghost use Rattle.xcap_io.specs.BufferedWrites.{BuffersBytes};
+ghost use Rattle.xcap_io.specs.StreamStates.{OnlyWrites};
+ghost use Rattle.xcap_io.specs.StreamWrites.{WritesAll};
+ghost use Rattle.xcap_client.specs.Requests.{IsLawfulAsk, user_field, content_fields, field_line};
 ghost use Rattle.xcap_client.specs.Requests.{request_bytes};
 
 use itoa::Buffer;
@@ -30,7 +30,7 @@ fn write_pieces<S: Sink>(
     write_buffer: &mut WriteBuffer,
     pieces: &[&[u8]],
 ) -> Result<(), Failed>
-    ensures appends_pieces { Adds
+    ensures appends_pieces { BuffersBytes
         (record { sink = S.state sink.old; held = write_buffer.old })
         (record { sink = S.state sink.new; held = write_buffer.new }) result
         (flat_map (λ piece. piece.now) pieces.now) }
@@ -74,7 +74,7 @@ fn content_lines<'a>(
 }
 
 // All pieces of the request, where `digits` write the length of its body.
-fn pieces_of<'a>(root: &'a Root, ask: &'a Ask, digits: &'a [u8]) -> [&'a [u8]; 18]
+fn all_pieces<'a>(root: &'a Root, ask: &'a Ask, digits: &'a [u8]) -> [&'a [u8]; 18]
     requires { digits.now ≡ decimal (length ask.now.body) }
     ensures request_pieces { flat_map (λ piece. piece.now) result ≡ request_bytes root.now ask.now }
 {
@@ -103,7 +103,7 @@ fn pieces_of<'a>(root: &'a Root, ask: &'a Ask, digits: &'a [u8]) -> [&'a [u8]; 1
 }
 
 // Writes all pieces through an empty write buffer.
-fn hand_over<S: Sink>(
+fn write_all_pieces<S: Sink>(
     sink: &mut S,
     write_buffer: &mut WriteBuffer,
     pieces: &[&[u8]],
@@ -124,12 +124,16 @@ fn hand_over<S: Sink>(
 /// `Failed` where a write failed; the sink then took a proper prefix of the request, and its count
 /// of such faults rose.
 pub fn write_request<S: Sink>(sink: &mut S, root: &Root, ask: &Ask) -> Result<(), Failed>
-    requires { IsLawful ask.now }
+    requires { IsLawfulAsk ask.now }
     ensures all_or_prefix { WritesAll (S.state sink.old).taken (S.state sink.new).taken result
         (request_bytes root.now ask.now) }
     ensures only_writes { OnlyWrites (S.state sink.old) (S.state sink.new) result }
 {
     let mut buffer = Buffer::new();
     let digits = buffer.format(ask.body.len()).as_bytes();
-    hand_over(sink, &mut WriteBuffer::new(), &pieces_of(root, ask, digits))
+    write_all_pieces(
+        sink,
+        &mut WriteBuffer::new(),
+        &all_pieces(root, ask, digits),
+    )
 }

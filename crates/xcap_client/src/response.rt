@@ -1,10 +1,10 @@
 // A response, read from a connection that ends after it.
 ghost use Rattle.std.specs.Prelude.{◌+◌, Option, Ok};
-ghost use Rattle.xcap_io.specs.Causes.{Reads};
-ghost use Rattle.xcap_client.specs.Stops.{CountsFault};
+ghost use Rattle.xcap_io.specs.StreamStates.{DiffersByReads};
+ghost use Rattle.xcap_client.specs.ReadFaults.{CountsReadFault};
 ghost use Rattle.xcap_client.specs.declared.body_length.BodyLength.{BodyLength};
-ghost use Rattle.xcap_client.specs.Responses.{AnswersRead};
-ghost use Rattle.xcap_client.specs.inner.Responses.{GivesBody};
+ghost use Rattle.xcap_client.specs.Responses.{ReadsAnswer};
+ghost use Rattle.xcap_client.specs.inner.ResponseBodies.{ReadsBody};
 
 use crate::ResponseFault;
 use crate::body_length::{BodyLength, MAX_RESPONSE_BODY_BYTES, read_body_length};
@@ -32,16 +32,16 @@ fn read_exactly<S: Source>(
     mut read_buffer: ReadBuffer,
     len: usize,
 ) -> Result<Bytes, ResponseFault>
-    ensures gives_body { GivesBody (BodyLength.Exactly len) read_buffer (S.state source.old).inward
+    ensures gives_body { ReadsBody (BodyLength.Exactly len) read_buffer (S.state source.old).inward
         (S.state source.new).inward result }
-    ensures only_reads { Reads (S.state source.old) (S.state source.new) }
-    ensures faults_never_fall { CountsFault (S.state source.old).read_faults
+    ensures only_reads { DiffersByReads (S.state source.old) (S.state source.new) }
+    ensures faults_never_fall { CountsReadFault (S.state source.old).read_faults
         (S.state source.new).read_faults result }
 {
     if !read_buffer.fill_to(source, len)? {
         return Err(ResponseFault::Short(read_buffer.len() as u64, len as u64));
     }
-    Ok(read_buffer.split_to_front(len))
+    Ok(read_buffer.into_first_bytes(len))
 }
 
 // The body that goes to the end of the bytes, and begins with the bytes in the read buffer.
@@ -49,17 +49,17 @@ fn read_to_end<S: Source>(
     source: &mut S,
     mut read_buffer: ReadBuffer,
 ) -> Result<Bytes, ResponseFault>
-    ensures gives_body { GivesBody BodyLength.ToEnd read_buffer (S.state source.old).inward
+    ensures gives_body { ReadsBody BodyLength.ToEnd read_buffer (S.state source.old).inward
         (S.state source.new).inward result }
-    ensures only_reads { Reads (S.state source.old) (S.state source.new) }
-    ensures faults_never_fall { CountsFault (S.state source.old).read_faults
+    ensures only_reads { DiffersByReads (S.state source.old) (S.state source.new) }
+    ensures faults_never_fall { CountsReadFault (S.state source.old).read_faults
         (S.state source.new).read_faults result }
 {
     if read_buffer.fill_to(source, MAX_RESPONSE_BODY_BYTES + 1)? {
         return Err(ResponseFault::TooLong(MAX_RESPONSE_BODY_BYTES as u64 + 1));
     }
     let len = read_buffer.len();
-    Ok(read_buffer.split_to_front(len))
+    Ok(read_buffer.into_first_bytes(len))
 }
 
 // The body of this length, which begins with the bytes in the read buffer.
@@ -69,10 +69,10 @@ fn read_body<S: Source>(
     read_buffer: ReadBuffer,
     extent: BodyLength,
 ) -> Result<Bytes, ResponseFault>
-    ensures gives_body { GivesBody extent read_buffer (S.state source.old).inward
+    ensures gives_body { ReadsBody extent read_buffer (S.state source.old).inward
         (S.state source.new).inward result }
-    ensures only_reads { Reads (S.state source.old) (S.state source.new) }
-    ensures faults_never_fall { CountsFault (S.state source.old).read_faults
+    ensures only_reads { DiffersByReads (S.state source.old) (S.state source.new) }
+    ensures faults_never_fall { CountsReadFault (S.state source.old).read_faults
         (S.state source.new).read_faults result }
 {
     match extent {
@@ -91,10 +91,10 @@ fn read_body<S: Source>(
 /// there is no head of at most `MAX_HEAD_BYTES` bytes and `MAX_FIELD_LINES` field lines, `Coding`,
 /// `Length`, `TooLong` for a body of more than `MAX_RESPONSE_BODY_BYTES` bytes, `Short`.
 pub fn read_response<S: Source>(alloc: Global, source: &mut S) -> Result<Response, ResponseFault>
-    ensures answers_read { AnswersRead (S.state source.old).inward
+    ensures answers_read { ReadsAnswer (S.state source.old).inward
         (S.state source.new).inward result }
-    ensures only_reads { Reads (S.state source.old) (S.state source.new) }
-    ensures faults_never_fall { CountsFault (S.state source.old).read_faults
+    ensures only_reads { DiffersByReads (S.state source.old) (S.state source.new) }
+    ensures faults_never_fall { CountsReadFault (S.state source.old).read_faults
         (S.state source.new).read_faults result }
 {
     let mut read_buffer = ReadBuffer::new(alloc);

@@ -2,7 +2,7 @@
 ghost use Rattle.std.specs.Prelude.{◌≡◌};
 ghost use Rattle.xcap_client.specs.declared.response_fault.FillError.TheVariants as stops;
 ghost use Rattle.xcap_client.specs.declared.response_fault.ResponseFault.TheVariants as faults;
-ghost use Rattle.xcap_client.specs.Stops.{fault_of};
+ghost use Rattle.xcap_client.specs.ReadFaults.{response_fault_of};
 
 use thiserror::Error;
 use xcap_io::NoMemory;
@@ -58,7 +58,7 @@ impl From<NoMemory> for ResponseFault {
 }
 
 impl From<FillError> for ResponseFault {
-    ghost from_gives = { λ stop fault. fault ≡ fault_of stop };
+    ghost from_gives = { λ stop fault. fault ≡ response_fault_of stop };
 
     fn from(stop: FillError) -> Self {
         match stop {

@@ -4,7 +4,7 @@ use Rattle.xml_tree.specs.Tree.{Content, last, more, comment_node, Tree, tree_of
 use Rattle.xml_tree.specs.Nodes.{content_of}
 use Rattle.xml_tree.specs.declared.tree.Node.TheVariants.{Elem}
 use Rattle.usage_docs.specs.SchemaTable.{Scope}
-use Rattle.usage_docs.specs.Services.{is_service, listed_as, service_elements, index_of}
+use Rattle.usage_docs.specs.Services.{is_service, listed_service, service_elements, index_of}
 
 -- the height of these elements: how many are one in another
 abbrev pub row_height : List Tree → ℕ
@@ -14,13 +14,13 @@ two_rows : (ss ts : List Tree) → row_height (ss ++ ts) ≡ max (row_height ss)
 two_rows [] ts = omega arith
 two_rows (s ∷ ss) ts = let e = two_rows ss ts in omega (arith, e)
 
-one_row : (b : Bool) (c : Scope) (e : Tree) (es : List Tree) (n : ℕ) → row_height (map (listed_as c) es) ≤ n
-    → row_height (map (listed_as c) (cond b (e ∷ es) es)) ≤ max (suc (content_height e.content)) n
+one_row : (b : Bool) (c : Scope) (e : Tree) (es : List Tree) (n : ℕ) → row_height (map (listed_service c) es) ≤ n
+    → row_height (map (listed_service c) (cond b (e ∷ es) es)) ≤ max (suc (content_height e.content)) n
 one_row true c e es n h = omega (arith, h)
 one_row false c e es n h = omega (arith, h)
 
 -- the services among the children of a root are no higher than its content
-services_low : (c : Scope) (content : Content) → row_height (map (listed_as c) (filter (is_service c) (child_elements content))) ≤ content_height content
+services_low : (c : Scope) (content : Content) → row_height (map (listed_service c) (filter (is_service c) (child_elements content))) ≤ content_height content
 services_low c (last t) = omega arith
 services_low c (more t n ds ats inner rest) =
     one_row (is_service c (tree_of n ds ats inner)) c (tree_of n ds ats inner) (filter (is_service c) (child_elements rest)) (content_height rest) (services_low c rest)

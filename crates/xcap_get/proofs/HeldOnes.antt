@@ -8,11 +8,11 @@ use Rattle.doc_names.specs.declared.doc_id.DocId.{DocId}
 use Rattle.doc_names.specs.declared.doc_id.Home.{Home}
 use Rattle.doc_names.specs.declared.doc_id.Home.TheVariants.{User}
 use Rattle.store_core.specs.Contents.{StoredDocument, StoreContents}
-use Rattle.xcap_machine.specs.Resources.{LeadsFrom, IsResourceOf, absent, there, version_of}
+use Rattle.xcap_machine.specs.Resources.{IsResourceInHome, IsResourceOf, absent, there, version_of}
 
 -- the name of a user's document leads to the stored version
 pub led : (c : StoreContents) (id : DocId) (xui : List ℕ) (t : Tree) (tag : ℕ) → id.home ≡ User xui → version_of c id ≡ Some (t, tag) → IsResourceOf c id (there t tag)
-led c id xui t tag home is = subst (λ (home : Home). LeadsFrom c id home (there t tag)) (sym home) (sym (ap (λ (version : Option (Tree × ℕ)). option_map_or (λ held. there held.0 held.1) version absent) is))
+led c id xui t tag home is = subst (λ (home : Home). IsResourceInHome c id home (there t tag)) (sym home) (sym (ap (λ (version : Option (Tree × ℕ)). option_map_or (λ held. there held.0 held.1) version absent) is))
 
 -- the print of a stored document, by its tree
 pub printed : (o : Option StoredDocument) (t : Tree) (tag : ℕ) → option_map {U = Tree × ℕ} (λ (h : StoredDocument). (h.tree, h.tag)) o ≡ Some (t, tag)

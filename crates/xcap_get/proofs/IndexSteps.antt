@@ -3,7 +3,7 @@ use Rattle.std.proofs.Common.{◌≡◌, ◌≤◌, ◌<◌, ℕ, Bor, List, [],
 use Rattle.std.proofs.lemmas.List.Elements.{All-map, recursion_from_All}
 use Rattle.std.specs.List.{All, AllByRecursion}
 use Rattle.xml_tree.specs.Tree.{Tree, height}
-use Rattle.xml_names.specs.Memory.{OfFault}
+use Rattle.xml_names.specs.ReadErrors.{FaultSatisfies}
 use Rattle.xml_names.specs.declared.read_error.ReadError.{ReadError}
 use Rattle.xml_names.specs.declared.read_error.ReadError.TheVariants.{Fault, NoMemory}
 use Rattle.usage_docs.specs.Services.{service_elements, index_of, index_of_documents, index_len, document_len, RefusesServices}
@@ -46,8 +46,8 @@ gathered_more trees left ss t new g is fits = record {
 }
 
 -- where the next document makes the index too long, so do all
-pub beyond : (trees left ss : List Tree) (t : Tree) (error : ReadError IndexFault) → Gathered trees (t ∷ left) ss → OfFault (RefusesServices (ss ++ service_elements t)) error
-    → OfFault (λ (fault : IndexFault). INDEX_LIMIT < document_len (index_of_documents trees)) error
+pub beyond : (trees left ss : List Tree) (t : Tree) (error : ReadError IndexFault) → Gathered trees (t ∷ left) ss → FaultSatisfies (RefusesServices (ss ++ service_elements t)) error
+    → FaultSatisfies (λ (fault : IndexFault). INDEX_LIMIT < document_len (index_of_documents trees)) error
 beyond trees left ss t (Fault (TooLarge len)) g refuses =
     let grows : index_len (ss ++ service_elements t) ≤ index_len (flat_map service_elements trees) =
     subst (λ (ts : List Tree). index_len (ss ++ service_elements t) ≤ index_len ts) (next trees left ss t g) (index_grows (ss ++ service_elements t) (flat_map service_elements left)) in

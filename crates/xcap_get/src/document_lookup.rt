@@ -5,7 +5,7 @@ ghost use Rattle.std.specs.Str.{bytes_eq};
 ghost use Rattle.usage_docs.specs.Capabilities.{capabilities};
 ghost use Rattle.doc_names.specs.declared.doc_id.Auid.TheVariants.{RlsServices};
 ghost use Rattle.store_core.specs.Indexes.{index};
-ghost use Rattle.xcap_machine.specs.Resources.{IsResourceOf, LeadsUnderGlobal, absent, there};
+ghost use Rattle.xcap_machine.specs.Resources.{IsResourceOf, IsGlobalResource, absent, there};
 ghost use Rattle.xcap_machine.specs.Resources.{version_of};
 ghost use Rattle.xcap_get.specs.inner.FoundResources.{IsWithinLevels, resource_of};
 
@@ -47,7 +47,7 @@ fn stored_document<'a>(store: &'a Store, doc: &DocId) -> DocumentLookup<'a>
 // The index of services, unless it is beyond its limit. Its tag is the last number given.
 fn find_index<'a>(alloc: Global, store: &'a Store) -> Result<DocumentLookup<'a>, NoMemory>
     ensures leads_there { IfOk result
-        (λ f. LeadsUnderGlobal store.now.content RlsServices true (resource_of f)) }
+        (λ f. IsGlobalResource store.now.content RlsServices true (resource_of f)) }
     ensures found_within_levels { IfOk result (λ f. IsWithinLevels f) }
 {
     match index_of_services(alloc, store) {
@@ -73,7 +73,7 @@ fn computed_document<'a>(
     auid: Auid,
 ) -> Result<DocumentLookup<'a>, NoMemory>
     ensures leads_there { IfOk result
-        (λ f. LeadsUnderGlobal store.now.content auid true (resource_of f)) }
+        (λ f. IsGlobalResource store.now.content auid true (resource_of f)) }
     ensures found_within_levels { IfOk result (λ f. IsWithinLevels f) }
 {
     match auid {
@@ -85,9 +85,13 @@ fn computed_document<'a>(
 
 // A document under `global`.
 #[tactic(auto, unfolding(store_core::specs::Indexes::index))]
-fn global<'a>(alloc: Global, store: &'a Store, doc: &DocId) -> Result<DocumentLookup<'a>, NoMemory>
+fn global_document<'a>(
+    alloc: Global,
+    store: &'a Store,
+    doc: &DocId,
+) -> Result<DocumentLookup<'a>, NoMemory>
     ensures leads_there { IfOk result
-        (λ f. LeadsUnderGlobal store.now.content doc.now.auid (bytes_eq doc.now.name index)
+        (λ f. IsGlobalResource store.now.content doc.now.auid (bytes_eq doc.now.name index)
         (resource_of f)) }
     ensures found_within_levels { IfOk result (λ f. IsWithinLevels f) }
 {
@@ -112,7 +116,7 @@ pub fn find_resource<'a>(
     ensures found_within_levels { IfOk result (λ f. IsWithinLevels f) }
 {
     match &doc.home {
-        Home::Global => global(alloc, store, doc),
+        Home::Global => global_document(alloc, store, doc),
         Home::User(_) => Ok(stored_document(store, doc)),
     }
 }

@@ -2,12 +2,12 @@
 ghost use Rattle.std.specs.Prelude.{◌≡◌, Some, IfOk, IfSome, encode_utf8_all};
 ghost use Rattle.xml_tree.specs.Tree.{Tree};
 ghost use Rattle.xml_tree.specs.Print.{document_print};
-ghost use Rattle.request_checks.specs.MediaTypes.{document_media};
-ghost use Rattle.request_checks.specs.Methods.{for_method};
-ghost use Rattle.xcap_machine.specs.Answers.{found, unchanged};
+ghost use Rattle.request_checks.specs.MediaTypes.{document_media_type};
+ghost use Rattle.request_checks.specs.Methods.{reply_for_method};
+ghost use Rattle.xcap_machine.specs.Answers.{found_reply, reply_only};
 ghost use Rattle.xcap_machine.specs.ReadRequests.{ReadsDocument, AnswersWithFound};
 ghost use Rattle.xcap_machine.specs.Resources.{IsResourceOf, there};
-ghost use Rattle.xcap_get.specs.inner.StoredDocuments.{IsHeldWith};
+ghost use Rattle.xcap_get.specs.inner.StoredDocuments.{IsStoredWithTag};
 
 use crate::NoMemory;
 use crate::document_lookup::{DocumentLookup, find_resource};
@@ -15,7 +15,7 @@ use crate::text_replies::text_reply;
 use doc_names::{DocId, Home};
 use http_wire::Request;
 use reply_text::{MediaType, Reply};
-use request_checks::{Method, condition_reply, document_media};
+use request_checks::{Method, condition_reply, document_media_type};
 use std::alloc::Global;
 use store_core::Store;
 use tree_print::print_document;
@@ -32,7 +32,7 @@ fn document_reply(
 ) -> Result<Reply, NoMemory>
     ensures sends_found { IfOk result
         (λ r. AnswersWithFound (Some (encode_utf8_all (document_print root.now))) tag media
-        (record { method = method; request = request.now }) (unchanged r)) }
+        (record { method = method; request = request.now }) (reply_only r)) }
 {
     if let Some(reply) = condition_reply(alloc, request, Some(tag), true, true)? {
         return Ok(reply);
@@ -51,9 +51,9 @@ fn get_and_print(
 ) -> Result<Reply, NoMemory>
     ensures machine_reply { IfOk result
         (λ r. ReadsDocument store.now.content doc.now
-        (record { method = method; request = request.now }) (unchanged r)) }
+        (record { method = method; request = request.now }) (reply_only r)) }
 {
-    let media = document_media(doc.auid);
+    let media = document_media_type(doc.auid);
     match find_resource(alloc, store, doc)? {
         DocumentLookup::Absent => Ok(Reply::fixed(404, request.closes)),
         DocumentLookup::BeyondLimit => Ok(Reply::fixed(507, request.closes)),
@@ -68,7 +68,7 @@ fn get_and_print(
 
 // The tag of a user's document, if it is stored.
 fn stored_tag(store: &Store, doc: &DocId) -> Option<u64>
-    ensures tag_of_stored { IfSome result (λ tag. IsHeldWith store.now.content doc.now tag) }
+    ensures tag_of_stored { IfSome result (λ tag. IsStoredWithTag store.now.content doc.now tag) }
 {
     let Home::User(_) = &doc.home else {
         return None;
@@ -87,18 +87,18 @@ fn printed_reply(
     method: Method,
     closes: bool,
 ) -> Result<Reply, NoMemory>
-    requires stored_there { IsHeldWith store.old.content doc.now tag }
+    requires stored_there { IsStoredWithTag store.old.content doc.now tag }
     ensures sends_printed { IfOk result
         (λ r. (t : Tree) × IsResourceOf store.old.content doc.now (there t tag)
-        × (r ≡ for_method method
-        (found (Some tag) (document_media doc.now.auid)
+        × (r ≡ reply_for_method method
+        (found_reply (Some tag) (document_media_type doc.now.auid)
         (encode_utf8_all (document_print t)) closes))) }
     ensures contents_unchanged { store.new ≡ store.old }
 {
     let Some(text) = store.print(doc)? else {
         unreachable!()
     };
-    let media = document_media(doc.auid);
+    let media = document_media_type(doc.auid);
     Ok(text_reply(Some(tag), media, text, method, closes))
 }
 
@@ -111,10 +111,10 @@ fn stored_reply(
     method: Method,
     request: &Request,
 ) -> Result<Reply, NoMemory>
-    requires stored_there { IsHeldWith store.old.content doc.now tag }
+    requires stored_there { IsStoredWithTag store.old.content doc.now tag }
     ensures machine_reply { IfOk result
         (λ r. ReadsDocument store.old.content doc.now
-        (record { method = method; request = request.now }) (unchanged r)) }
+        (record { method = method; request = request.now }) (reply_only r)) }
     ensures contents_unchanged { store.new ≡ store.old }
 {
     match condition_reply(alloc, request, Some(tag), true, true)? {
@@ -138,7 +138,7 @@ pub fn get_document(
 ) -> Result<Reply, NoMemory>
     ensures machine_reply { IfOk result
         (λ r. ReadsDocument store.old.content doc.now
-        (record { method = method; request = request.now }) (unchanged r)) }
+        (record { method = method; request = request.now }) (reply_only r)) }
     ensures contents_unchanged { store.new ≡ store.old }
 {
     match stored_tag(store, doc) {

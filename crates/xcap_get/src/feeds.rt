@@ -1,10 +1,10 @@
 //! GET and HEAD of feeds (RFC 5874, section 3; RFC 9110, sections 9.3.1 and 9.3.2).
 ghost use Rattle.std.specs.Prelude.{IfOk};
-ghost use Rattle.xcap_machine.specs.Answers.{unchanged};
+ghost use Rattle.xcap_machine.specs.Answers.{reply_only};
 ghost use Rattle.xcap_machine.specs.Feeds.{ReadsFeed};
 
 use crate::NoMemory;
-use crate::feed_replies::with_notice;
+use crate::feed_replies::notice_reply;
 use doc_names::DocId;
 use http_wire::Request;
 use patch_write::{gone_notice, notice};
@@ -41,12 +41,12 @@ pub fn get_feed(
     ensures machine_reply { IfOk result (λ r. ReadsFeed
         (record { root = root.now; content = store.now.content })
         (record { mode = feed.entry.mode; tag = feed.entry.tag; id = feed.entry.doc.now })
-        (record { method = method; request = request.now }) (unchanged r)) }
+        (record { method = method; request = request.now }) (reply_only r)) }
 {
     let text = match store.since(feed.doc, feed.tag) {
         Since::Gone => gone_notice(alloc, root, feed.doc, feed.tag)?,
         Since::Unknown => return Ok(Reply::fixed(410, request.closes)),
         Since::Changes(notes) => notice(alloc, feed.mode, root, feed.doc, feed.tag, notes)?,
     };
-    Ok(with_notice(text, method, request.closes))
+    Ok(notice_reply(text, method, request.closes))
 }

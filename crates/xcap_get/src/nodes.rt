@@ -2,8 +2,8 @@
 ghost use Rattle.std.specs.Prelude.{◌≤◌, IfOk};
 ghost use Rattle.xml_names.specs.declared.limits.TheConstants.{MAX_LEVELS};
 ghost use Rattle.xml_tree.specs.Tree.{height};
-ghost use Rattle.reply_bodies.specs.Nodes.{encoded, found_text, node_media};
-ghost use Rattle.xcap_machine.specs.Answers.{unchanged};
+ghost use Rattle.reply_bodies.specs.Nodes.{encode_optional, found_text, node_media_type};
+ghost use Rattle.xcap_machine.specs.Answers.{reply_only};
 ghost use Rattle.xcap_machine.specs.ReadRequests.{ReadsNode, AnswersWithFound};
 
 use crate::NoMemory;
@@ -12,7 +12,7 @@ use crate::text_replies::text_reply;
 use doc_names::DocId;
 use http_wire::Request;
 use node_select::Selector;
-use reply_bodies::{found_text, node_media};
+use reply_bodies::{found_text, node_media_type};
 use reply_text::Reply;
 use request_checks::{Method, condition_reply};
 use std::alloc::Global;
@@ -31,9 +31,9 @@ fn node_reply(
 ) -> Result<Reply, NoMemory>
     requires height_bounded { height root.now ≤ MAX_LEVELS }
     ensures sends_found { IfOk result
-        (λ r. AnswersWithFound (encoded (found_text root.now selector.now)) tag
-        (node_media selector.now.end) (record { method = method; request = request.now })
-        (unchanged r)) }
+        (λ r. AnswersWithFound (encode_optional (found_text root.now selector.now)) tag
+        (node_media_type selector.now.end) (record { method = method; request = request.now })
+        (reply_only r)) }
 {
     let Some(text) = found_text(alloc, root, selector)? else {
         return Ok(Reply::fixed(404, request.closes));
@@ -41,7 +41,7 @@ fn node_reply(
     if let Some(reply) = condition_reply(alloc, request, Some(tag), true, true)? {
         return Ok(reply);
     }
-    let media = node_media(&selector.end);
+    let media = node_media_type(&selector.end);
     Ok(text_reply(Some(tag), media, text, method, request.closes))
 }
 
@@ -61,7 +61,7 @@ pub fn get_node(
 ) -> Result<Reply, NoMemory>
     ensures machine_reply { IfOk result
         (λ r. ReadsNode store.now.content doc.now selector.now
-        (record { method = method; request = request.now }) (unchanged r)) }
+        (record { method = method; request = request.now }) (reply_only r)) }
 {
     match find_resource(alloc, store, doc)? {
         DocumentLookup::Absent => Ok(Reply::fixed(404, request.closes)),

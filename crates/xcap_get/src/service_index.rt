@@ -1,7 +1,7 @@
 //! The index of all services (RFC 4826, sections 4.4.7 and 4.4.8).
 ghost use Rattle.std.specs.Prelude.{◌≤◌, IfErr, IfOk};
 ghost use Rattle.xml_names.specs.declared.limits.TheConstants.{MAX_LEVELS};
-ghost use Rattle.xml_names.specs.Memory.{OfFault};
+ghost use Rattle.xml_names.specs.ReadErrors.{FaultSatisfies};
 ghost use Rattle.xml_tree.specs.Tree.{height};
 ghost use Rattle.usage_docs.specs.Services.{document_len};
 ghost use Rattle.usage_docs.specs.declared.service_index.TheConstants.{INDEX_LIMIT};
@@ -23,7 +23,7 @@ pub fn index_of_services(alloc: Global, store: &Store) -> Result<Element, ReadEr
     ensures within_limit { IfOk result (λ root. document_len root ≤ INDEX_LIMIT) }
     ensures found_within_levels { IfOk result (λ root. height root ≤ MAX_LEVELS) }
     ensures refused_beyond_limit { IfErr result
-        (λ error. OfFault (λ _. HasLongIndex store.now.content) error) }
+        (λ error. FaultSatisfies (λ _. HasLongIndex store.now.content) error) }
 {
     let mut maker = IndexBuilder::new(alloc)?;
     for root in store.user_indexes(alloc)? {

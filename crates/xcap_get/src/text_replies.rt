@@ -1,10 +1,10 @@
 //! Replies with a text that was found (RFC 4825, section 8.3).
 ghost use Rattle.std.specs.Prelude.{◌≡◌};
-ghost use Rattle.request_checks.specs.Methods.{for_method};
-ghost use Rattle.xcap_machine.specs.Answers.{found};
+ghost use Rattle.request_checks.specs.Methods.{reply_for_method};
+ghost use Rattle.xcap_machine.specs.Answers.{found_reply};
 
 use reply_text::{MediaType, Reply};
-use request_checks::{Method, for_method};
+use request_checks::{Method, reply_for_method};
 use xcap_io::Bytes;
 
 /// The reply with a text that was found, or for HEAD the head of that reply. The tag is the
@@ -16,8 +16,8 @@ pub fn text_reply(
     method: Method,
     closes: bool,
 ) -> Reply
-    ensures sends_as_asked { result ≡ for_method method (found tag media text closes) }
+    ensures sends_as_asked { result ≡ reply_for_method method (found_reply tag media text closes) }
 {
     let reply = Reply::with(200, tag, Some(media), text, closes);
-    for_method(method, reply)
+    reply_for_method(method, reply)
 }

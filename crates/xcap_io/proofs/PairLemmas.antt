@@ -1,8 +1,8 @@
 -- What is known of the two objects of a pair, after calls on the pair.
 use Rattle.std.proofs.Common.{◌≡◌, List, [], ◌∷◌, ◌++◌, length, ap, arith}
 use Rattle.std.specs.Borrow.{GName}
-use Rattle.xcap_io.specs.Causes.{HiddenState, StreamState}
-use Rattle.xcap_io.specs.Pairs.{hidden_by_input, hidden_by_output}
+use Rattle.xcap_io.specs.StreamStates.{HiddenState, StreamState}
+use Rattle.xcap_io.specs.StreamPairs.{input_hidden_state, output_hidden_state}
 
 -- two equal lists that begin with parts of the same length begin with the same part
 first_part : {A : Type 0} (xs ys xs' ys' : List A) → length xs' ≡ length xs → xs' ++ ys' ≡ xs ++ ys → xs' ≡ xs
@@ -27,8 +27,8 @@ second_part (x ∷ xs) ys (x' ∷ xs') ys' same e =
 -- Only calls on a pair of them happened between the two states, so the references and the hidden
 -- state of each are as before.
 pub record Through (input output input' output' : StreamState) : Type 0 where
-  pub same_unread : hidden_by_input input' ≡ hidden_by_input input
-  pub same_unwritten : hidden_by_output output' ≡ hidden_by_output output
+  pub same_unread : input_hidden_state input' ≡ input_hidden_state input
+  pub same_unwritten : output_hidden_state output' ≡ output_hidden_state output
   pub same_input_holds : input'.holds ≡ input.holds
   pub same_output_holds : output'.holds ≡ output.holds
   pub same_input_aside : input'.aside ≡ input.aside
@@ -36,13 +36,13 @@ pub record Through (input output input' output' : StreamState) : Type 0 where
 
 pub through : {a o a' o' : GName} (input output input' output' : StreamState)
     → a' ∷ o' ∷ (input'.holds ++ output'.holds) ≡ a ∷ o ∷ (input.holds ++ output.holds)
-    → hidden_by_input input' ∷ hidden_by_output output' ∷ (input'.aside ++ output'.aside) ≡ hidden_by_input input ∷ hidden_by_output output ∷ (input.aside ++ output.aside)
+    → input_hidden_state input' ∷ output_hidden_state output' ∷ (input'.aside ++ output'.aside) ≡ input_hidden_state input ∷ output_hidden_state output ∷ (input.aside ++ output.aside)
     → Through input output input' output'
 through input output input' output' holds aside =
     let held : input'.holds ++ output'.holds ≡ input.holds ++ output.holds = cc in
     let set : input'.aside ++ output'.aside ≡ input.aside ++ output.aside = cc in
-    let same : hidden_by_input input' ≡ hidden_by_input input = cc in
-    let same' : hidden_by_output output' ≡ hidden_by_output output = cc in
+    let same : input_hidden_state input' ≡ input_hidden_state input = cc in
+    let same' : output_hidden_state output' ≡ output_hidden_state output = cc in
     let long : length input'.holds ≡ length input.holds = ap (λ (m : HiddenState). m.holds) same in
     let long' : length input'.aside ≡ length input.aside = ap (λ (m : HiddenState). m.aside) same in
     record {

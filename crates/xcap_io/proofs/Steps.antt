@@ -2,22 +2,22 @@
 use Rattle.std.proofs.Common.{◌≡◌, ℕ, ◌+◌, ◌-◌, ◌<◌, ◌≤◌, ◌==◌, true, min, List, [], ◌++◌, length, take, drop, sym, ap, ◌∙◌, subst, arith, length-drop, length-append, take-append-drop}
 use Rattle.std.proofs.lemmas.Bool.Decides.{nat_tests}
 use Rattle.std.proofs.lemmas.List.{length-take-le, take_at, take-append-le, drop-drop, drop_all}
-use Rattle.xcap_io.specs.StreamTraffic.{Took}
+use Rattle.xcap_io.specs.StreamTraffic.{TakesBytes}
 use Rattle.xcap_io.proofs.TrafficSums.{took_on}
 use Rattle.std.proofs.Math.Seq.{take-add}
-use Rattle.xcap_io.specs.Streams.{TookProperPrefix}
+use Rattle.xcap_io.specs.StreamWrites.{TakesProperPrefix}
 
 -- the next m of the bytes, after the first n of them
-pub appends_next : (a b c : List ℕ) (n m : ℕ) (bytes : List ℕ) → Took a b (take n bytes) → Took b c (take m (drop n bytes)) → Took a c (take (n + m) bytes)
+pub appends_next : (a b c : List ℕ) (n m : ℕ) (bytes : List ℕ) → TakesBytes a b (take n bytes) → TakesBytes b c (take m (drop n bytes)) → TakesBytes a c (take (n + m) bytes)
 appends_next a b c n m bytes first next =
-    subst (Took a c) (sym (take-add n m bytes)) (took_on a b c (take n bytes) (take m (drop n bytes)) first next)
+    subst (TakesBytes a c) (sym (take-add n m bytes)) (took_on a b c (take n bytes) (take m (drop n bytes)) first next)
 
 -- a write that stopped within the first bytes stopped before the next ones too
-pub stopped_first : (a b : List ℕ) (first next : List ℕ) → TookProperPrefix a b first → TookProperPrefix a b (first ++ next)
+pub stopped_first : (a b : List ℕ) (first next : List ℕ) → TakesProperPrefix a b first → TakesProperPrefix a b (first ++ next)
 stopped_first a b first next stopped = (
   stopped.0,
   omega (arith, length-append first next, stopped.1),
-  subst (Took a b) (sym (take-append-le stopped.0 first next (omega (arith, stopped.1)))) stopped.2,
+  subst (TakesBytes a b) (sym (take-append-le stopped.0 first next (omega (arith, stopped.1)))) stopped.2,
 )
 
 -- what a stream has left is the bytes that it gives next, at the front of a buffer, and then the

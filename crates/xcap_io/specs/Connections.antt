@@ -2,12 +2,12 @@
 -- after the other.
 use Rattle.std.specs.Prelude.{◌≡◌, ℕ, List, [], ◌∷◌, Bool, true, false, Option, Some, IfSome}
 use Rattle.std.specs.Prelude.{Result, Ok, Err, MatchResult, option_map}
-use Rattle.xcap_io.specs.Causes.{StreamState, CountRises}
-use Rattle.xcap_io.specs.Histories.{Traffic, carried_by, no_traffic}
+use Rattle.xcap_io.specs.StreamStates.{StreamState, CountRises}
+use Rattle.xcap_io.specs.ConnectionHistories.{Traffic, all_traffic, no_traffic}
 
 -- the stream, listening at this address if it shows the address
-abbrev pub listening_at : StreamState → List ℕ → StreamState
-listening_at line address =
+abbrev pub with_listening_address : StreamState → List ℕ → StreamState
+with_listening_address line address =
     record line {
       port = record line.port { listening = option_map (λ _. Some address) line.port.listening };
     }
@@ -23,7 +23,7 @@ ListenFailed old new =
 abbrev pub Listens : {E : Type 0} → StreamState → StreamState → Result (Unit {0}) E → List ℕ
     → Type 0
 Listens old new result address = MatchResult result
-    (λ _. new ≡ listening_at old address)
+    (λ _. new ≡ with_listening_address old address)
     (λ _. ListenFailed old new)
 
 -- what has passed over the stream, or over its present connection
@@ -32,22 +32,23 @@ traffic line = record { given = line.inward.given; ended = line.inward.ended; ta
 
 -- what passed over each connection that a port accepted, the present one last
 abbrev pub port_traffic : StreamState → List Traffic
-port_traffic line = carried_by line.port.begun.earlier line.port.begun.is_present (traffic line)
+port_traffic line = all_traffic line.port.begun.earlier line.port.begun.is_present (traffic line)
 
 -- what passed over each connection that a peer made, the present one last
 abbrev pub peer_traffic : StreamState → List Traffic
-peer_traffic line = carried_by line.peer.begun.earlier line.peer.begun.is_present (traffic line)
+peer_traffic line = all_traffic line.peer.begun.earlier line.peer.begun.is_present (traffic line)
 
 -- the first of the connections still to come has begun, and its bytes are left to read
-abbrev pub Comes : Option (List (List ℕ)) → Option (List (List ℕ)) → Option (List ℕ) → Type 0
-Comes old new left =
+abbrev pub BringsNextConnection : Option (List (List ℕ)) → Option (List (List ℕ)) → Option (List ℕ)
+    → Type 0
+BringsNextConnection old new left =
     IfSome old (λ all.
     (bytes : List ℕ) × (more : List (List ℕ))
     × (all ≡ bytes ∷ more) × (new ≡ Some more) × (left ≡ Some bytes))
 
 -- The present connection of a port ended, and the next one began.
-pub record Next (old new : StreamState) : Type 0 where
-  pub comes : Comes old.port.to_come new.port.to_come new.inward.left
+pub record AcceptsNext (old new : StreamState) : Type 0 where
+  pub comes : BringsNextConnection old.port.to_come new.port.to_come new.inward.left
   pub begins : new.port.begun ≡ record { earlier = port_traffic old; is_present = true }
   pub nothing_passed : traffic new ≡ no_traffic
   pub same_listening : new.port.listening ≡ old.port.listening
@@ -73,14 +74,14 @@ pub record NextFailed (old new : StreamState) : Type 0 where
 
 -- On `Ok(true)` the next connection began. `Ok(false)` changes nothing and comes only where the
 -- port shows that none is left: a port that doesn't show what is to come never ends.
-abbrev pub OnlyNext : {E : Type 0} → StreamState → StreamState → Result Bool E → Type 0
-OnlyNext old new (Ok true) = Next old new
-OnlyNext old new (Ok false) = (new ≡ old) × (old.port.to_come ≡ Some [])
-OnlyNext old new (Err e) = NextFailed old new
+abbrev pub OnlyAcceptsNext : {E : Type 0} → StreamState → StreamState → Result Bool E → Type 0
+OnlyAcceptsNext old new (Ok true) = AcceptsNext old new
+OnlyAcceptsNext old new (Ok false) = (new ≡ old) × (old.port.to_come ≡ Some [])
+OnlyAcceptsNext old new (Err e) = NextFailed old new
 
 -- The present connection of a peer ended, and one at this address began.
 pub record Connects (old new : StreamState) (address : List ℕ) : Type 0 where
-  pub comes : Comes old.peer.to_come new.peer.to_come new.inward.left
+  pub comes : BringsNextConnection old.peer.to_come new.peer.to_come new.inward.left
   pub begins : new.peer.begun ≡ record { earlier = peer_traffic old; is_present = true }
   pub dialled : new.peer.addresses ≡ address ∷ old.peer.addresses
   pub nothing_passed : traffic new ≡ no_traffic
@@ -105,7 +106,7 @@ pub record ConnectFailed (old new : StreamState) : Type 0 where
   pub same_port : new.port ≡ old.port
 
 -- On `Ok` a connection at the address began.
-abbrev pub ConnectsOnly : {E : Type 0} → StreamState → StreamState → Result (Unit {0}) E → List ℕ
+abbrev pub OnlyConnects : {E : Type 0} → StreamState → StreamState → Result (Unit {0}) E → List ℕ
     → Type 0
-ConnectsOnly old new result address =
+OnlyConnects old new result address =
     MatchResult result (λ _. Connects old new address) (λ _. ConnectFailed old new)

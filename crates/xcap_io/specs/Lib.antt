@@ -1,10 +1,10 @@
-pub mod Adds
-pub mod Causes
+pub mod BufferedWrites
+pub mod ConnectionHistories
 pub mod Connections
-pub mod Histories
-pub mod Memory
-pub mod Pairs
-pub mod Sockets
+pub mod MemoryStreams
+pub mod SocketStreams
+pub mod StreamPairs
+pub mod StreamStates
 pub mod StreamTraffic
-pub mod Streams
+pub mod StreamWrites
 pub mod inner

@@ -39,7 +39,7 @@ impl Bytes {
     }
 
     /// Wraps a vector of bytes. Does not allocate.
-    pub fn own(inner: Vec<u8>) -> Bytes
+    pub fn from_vec(inner: Vec<u8>) -> Bytes
         ensures holds_bytes { result ≡ inner.items }
     {
         Bytes { inner }

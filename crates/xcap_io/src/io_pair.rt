@@ -1,6 +1,6 @@
 // A source and a sink as one stream.
 ghost use Rattle.std.specs.Prelude.{◌≡◌, [], ◌∷◌};
-ghost use Rattle.xcap_io.specs.Pairs.{pair_state};
+ghost use Rattle.xcap_io.specs.StreamPairs.{pair_state};
 
 use crate::{Failed, Line, Sink, Source};
 

@@ -1,16 +1,17 @@
 // A peer in memory, for tests and for programs over known bytes.
 ghost use Rattle.std.specs.Prelude.{◌≡◌, ◌<◌, [], length, None, option_copied, slice_get};
 ghost use Rattle.std.specs.Io.{ReadsAtMost};
-ghost use Rattle.xcap_io.specs.Causes.{OnlyReads, OnlyWrites};
-ghost use Rattle.xcap_io.specs.Connections.{ConnectsOnly};
-ghost use Rattle.xcap_io.specs.Memory.{LinesRead, LinesWrite, MemoryConnect, peer_state};
+ghost use Rattle.xcap_io.specs.StreamStates.{OnlyReads, OnlyWrites};
+ghost use Rattle.xcap_io.specs.Connections.{OnlyConnects};
+ghost use Rattle.xcap_io.specs.MemoryStreams.{ReadsPresentLine, WritesPresentLine};
+ghost use Rattle.xcap_io.specs.MemoryStreams.{ConnectsInMemory, peer_state};
 ghost use Rattle.xcap_io.specs.StreamTraffic.{GivesReadBytes, TakesWrittenBytes};
-ghost use Rattle.xcap_io.specs.Streams.{WritesSome};
+ghost use Rattle.xcap_io.specs.StreamWrites.{WritesSome};
 
 use crate::address_history::AddressHistory;
 use crate::mem_port::is_failing_call;
 use crate::mem_streams::MemStreams;
-use crate::streams::fault;
+use crate::streams::count_fault;
 use crate::{Failed, Line, MemStream, Peer, Sink, Source};
 use std::marker::Model;
 
@@ -25,7 +26,7 @@ pub struct MemPeer {
 }
 
 impl Model for MemPeer {
-    ghost use Rattle.xcap_io.specs.Memory.{MemoryPeer};
+    ghost use Rattle.xcap_io.specs.MemoryStreams.{MemoryPeer};
 
     ghost Value = { MemoryPeer };
 
@@ -76,7 +77,7 @@ impl Source for MemPeer {
         ensures appends_read { GivesReadBytes (peer_state self.old).inward
             (peer_state self.new).inward result buf.new }
         ensures only_reads { OnlyReads (peer_state self.old) (peer_state self.new) result }
-        ensures as_memory_form { LinesRead self.old.lines self.new.lines
+        ensures as_memory_form { ReadsPresentLine self.old.lines self.new.lines
             (length buf.old) result }
         ensures rest_unchanged { self.new ≡ record self.old { lines = self.new.lines } }
     {
@@ -91,7 +92,7 @@ impl Sink for MemPeer {
         ensures appends_written { TakesWrittenBytes (peer_state self.old).taken
             (peer_state self.new).taken result piece.now }
         ensures only_writes { OnlyWrites (peer_state self.old) (peer_state self.new) result }
-        ensures as_memory_form { LinesWrite self.old.lines self.new.lines piece.now result }
+        ensures as_memory_form { WritesPresentLine self.old.lines self.new.lines piece.now result }
         ensures rest_unchanged { self.new ≡ record self.old { lines = self.new.lines } }
     {
         self.lines.write(piece)
@@ -100,15 +101,15 @@ impl Sink for MemPeer {
 
 impl Peer for MemPeer {
     fn connect(&mut self, address: &str) -> Result<(), Failed>
-        ensures only_connects { ConnectsOnly (peer_state self.old)
+        ensures only_connects { OnlyConnects (peer_state self.old)
             (peer_state self.new) result address.now }
-        ensures as_memory_form { MemoryConnect self.old self.new result address.now }
+        ensures as_memory_form { ConnectsInMemory self.old self.new result address.now }
     {
         if is_failing_call(&mut self.until_fault) {
-            return Err(fault(&mut self.faults));
+            return Err(count_fault(&mut self.faults));
         }
         if !self.lines.begin_next() {
-            return Err(fault(&mut self.faults));
+            return Err(count_fault(&mut self.faults));
         }
         self.addresses.add(address.as_bytes());
         Ok(())

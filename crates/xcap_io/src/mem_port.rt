@@ -2,16 +2,17 @@
 ghost use Rattle.std.specs.Prelude.{◌≡◌, ◌<◌, length, None, Some, IsTrue, ◌↔◌, option_copied};
 ghost use Rattle.std.specs.Prelude.{slice_get};
 ghost use Rattle.std.specs.Io.{ReadsAtMost};
-ghost use Rattle.xcap_io.specs.Causes.{OnlyReads, OnlyWrites};
-ghost use Rattle.xcap_io.specs.Connections.{Listens, OnlyNext};
-ghost use Rattle.xcap_io.specs.Memory.{after_call, LinesRead, LinesWrite, MemoryListen, MemoryNext};
-ghost use Rattle.xcap_io.specs.Memory.{port_state};
+ghost use Rattle.xcap_io.specs.StreamStates.{OnlyReads, OnlyWrites};
+ghost use Rattle.xcap_io.specs.Connections.{Listens, OnlyAcceptsNext};
+ghost use Rattle.xcap_io.specs.MemoryStreams.{countdown_after_call, ReadsPresentLine};
+ghost use Rattle.xcap_io.specs.MemoryStreams.{WritesPresentLine, ListensInMemory, AcceptsInMemory};
+ghost use Rattle.xcap_io.specs.MemoryStreams.{port_state};
 ghost use Rattle.xcap_io.specs.StreamTraffic.{GivesReadBytes, TakesWrittenBytes};
-ghost use Rattle.xcap_io.specs.Streams.{WritesSome};
+ghost use Rattle.xcap_io.specs.StreamWrites.{WritesSome};
 
 use crate::address_history::AddressHistory;
 use crate::mem_streams::MemStreams;
-use crate::streams::fault;
+use crate::streams::count_fault;
 use crate::{Failed, Line, MemStream, Port, Sink, Source};
 use std::marker::Model;
 
@@ -27,7 +28,7 @@ pub struct MemPort {
 }
 
 impl Model for MemPort {
-    ghost use Rattle.xcap_io.specs.Memory.{MemoryPort, latest};
+    ghost use Rattle.xcap_io.specs.MemoryStreams.{MemoryPort, latest_address};
 
     ghost Value = { MemoryPort };
 
@@ -35,7 +36,7 @@ impl Model for MemPort {
       lines = m.lines;
       listen_fails = m.listen_fails;
       until_fault = m.until_fault;
-      listening = latest m.addresses.texts;
+      listening = latest_address m.addresses.texts;
       faults = m.faults;
     } };
 }
@@ -73,7 +74,7 @@ impl MemPort {
 /// Counts a call, and returns whether it is the one that fails.
 pub(crate) fn is_failing_call(until_fault: &mut Option<usize>) -> bool
     ensures fails_iff { IsTrue result ↔ (until_fault.old ≡ Some 1) }
-    ensures counts_down { until_fault.new ≡ after_call until_fault.old }
+    ensures counts_down { until_fault.new ≡ countdown_after_call until_fault.old }
 {
     match *until_fault {
         Some(1) => {
@@ -99,7 +100,7 @@ impl Source for MemPort {
         ensures appends_read { GivesReadBytes (port_state self.old).inward
             (port_state self.new).inward result buf.new }
         ensures only_reads { OnlyReads (port_state self.old) (port_state self.new) result }
-        ensures as_memory_form { LinesRead self.old.lines self.new.lines
+        ensures as_memory_form { ReadsPresentLine self.old.lines self.new.lines
             (length buf.old) result }
         ensures rest_unchanged { self.new ≡ record self.old { lines = self.new.lines } }
     {
@@ -114,7 +115,7 @@ impl Sink for MemPort {
         ensures appends_written { TakesWrittenBytes (port_state self.old).taken
             (port_state self.new).taken result piece.now }
         ensures only_writes { OnlyWrites (port_state self.old) (port_state self.new) result }
-        ensures as_memory_form { LinesWrite self.old.lines self.new.lines piece.now result }
+        ensures as_memory_form { WritesPresentLine self.old.lines self.new.lines piece.now result }
         ensures rest_unchanged { self.new ≡ record self.old { lines = self.new.lines } }
     {
         self.lines.write(piece)
@@ -125,21 +126,21 @@ impl Port for MemPort {
     fn listen(&mut self, address: &str) -> Result<(), Failed>
         ensures listens_or_fails { Listens (port_state self.old)
             (port_state self.new) result address.now }
-        ensures as_memory_form { MemoryListen self.old self.new result address.now }
+        ensures as_memory_form { ListensInMemory self.old self.new result address.now }
     {
         if self.listen_fails {
-            return Err(fault(&mut self.faults));
+            return Err(count_fault(&mut self.faults));
         }
         self.addresses.add(address.as_bytes());
         Ok(())
     }
 
     fn next(&mut self) -> Result<bool, Failed>
-        ensures only_next { OnlyNext (port_state self.old) (port_state self.new) result }
-        ensures as_memory_form { MemoryNext self.old self.new result }
+        ensures only_next { OnlyAcceptsNext (port_state self.old) (port_state self.new) result }
+        ensures as_memory_form { AcceptsInMemory self.old self.new result }
     {
         if is_failing_call(&mut self.until_fault) {
-            return Err(fault(&mut self.faults));
+            return Err(count_fault(&mut self.faults));
         }
         Ok(self.lines.begin_next())
     }

@@ -1,13 +1,14 @@
 // A source and a sink in memory, for tests and for programs over known bytes.
 ghost use Rattle.std.specs.Prelude.{◌≡◌, ◌<◌, ◌≤◌, [], false, length, IfOk, IfSome, Some, min};
 ghost use Rattle.std.specs.Io.{ReadsAtMost};
-ghost use Rattle.xcap_io.specs.Causes.{OnlyReads, OnlyWrites};
-ghost use Rattle.xcap_io.specs.Memory.{reset_line, MemoryRead, MemoryWrite, line_state};
-ghost use Rattle.xcap_io.specs.inner.Memory.{Gives};
+ghost use Rattle.xcap_io.specs.StreamStates.{OnlyReads, OnlyWrites};
+ghost use Rattle.xcap_io.specs.MemoryStreams.{reset_line, ReadsInMemory, WritesInMemory};
+ghost use Rattle.xcap_io.specs.MemoryStreams.{line_state};
+ghost use Rattle.xcap_io.specs.inner.MemoryReads.{IsMaxReadLen};
 ghost use Rattle.xcap_io.specs.StreamTraffic.{GivesReadBytes, TakesWrittenBytes};
-ghost use Rattle.xcap_io.specs.Streams.{WritesSome};
+ghost use Rattle.xcap_io.specs.StreamWrites.{WritesSome};
 
-use crate::streams::fault;
+use crate::streams::count_fault;
 use crate::traffic_log::TrafficLog;
 use crate::{Failed, Line, NoMemory, Sink, Source};
 use std::alloc::Global;
@@ -30,7 +31,7 @@ pub struct MemStream {
 
 impl Model for MemStream {
     ghost use Rattle.std.specs.Prelude.{◌-◌, ◌<◌, ◌≤◌, length, take, drop, option_map};
-    ghost use Rattle.xcap_io.specs.Memory.{MemoryStream};
+    ghost use Rattle.xcap_io.specs.MemoryStreams.{MemoryStream};
 
     ghost Value = { MemoryStream };
 
@@ -52,7 +53,7 @@ impl Model for MemStream {
 
 impl MemStream {
     /// A stream that gives `bytes`, at most `step` at a time, which is at least 1, and takes
-    /// `room` bytes in all. A read at or beyond offset `read_fails_at` fails.
+    /// `free_len` bytes in all. A read at or beyond offset `read_fails_at` fails.
     pub fn new(
         alloc: Global,
         bytes: &[u8],
@@ -94,7 +95,7 @@ impl MemStream {
     }
 
     /// Forgets what has passed, for a new connection over this stream.
-    pub(crate) fn begin(&mut self)
+    pub(crate) fn begin_connection(&mut self)
         ensures begins_anew { self.new ≡ reset_line self.old }
     {
         self.held = 0;
@@ -107,10 +108,10 @@ impl Line for MemStream {
 }
 
 // How many of `wanted` bytes a read gives before the offset where reads fail; None from there on.
-fn max_given(wanted: usize, given: usize, fails_at: Option<usize>) -> Option<usize>
+fn max_read_len(wanted: usize, given: usize, fails_at: Option<usize>) -> Option<usize>
     requires { 0 < wanted }
     ensures at_least_one { IfSome result (λ most. (0 < most) × (most ≤ wanted)) }
-    ensures gives_stored { Gives wanted given fails_at result }
+    ensures gives_stored { IsMaxReadLen wanted given fails_at result }
 {
     match fails_at {
         Some(place) if given >= place => None,
@@ -126,11 +127,11 @@ impl Source for MemStream {
         ensures appends_read { GivesReadBytes (line_state self.old).inward
             (line_state self.new).inward result buf.new }
         ensures only_reads { OnlyReads (line_state self.old) (line_state self.new) result }
-        ensures as_memory_form { MemoryRead self.old self.new (length buf.old) result }
+        ensures as_memory_form { ReadsInMemory self.old self.new (length buf.old) result }
     {
         let wanted = buf.len().min(self.step);
-        let Some(most) = max_given(wanted, self.given, self.read_fails_at) else {
-            return Err(fault(&mut self.read_faults));
+        let Some(most) = max_read_len(wanted, self.given, self.read_fails_at) else {
+            return Err(count_fault(&mut self.read_faults));
         };
         let count = most.min(self.input.len() - self.given);
         buf[..count].copy_from_slice(&self.input[self.given..self.given + count]);
@@ -147,11 +148,11 @@ impl Sink for MemStream {
         ensures appends_written { TakesWrittenBytes (line_state self.old).taken
             (line_state self.new).taken result piece.now }
         ensures only_writes { OnlyWrites (line_state self.old) (line_state self.new) result }
-        ensures as_memory_form { MemoryWrite self.old self.new piece.now result }
+        ensures as_memory_form { WritesInMemory self.old self.new piece.now result }
     {
         let count = piece.len().min(self.output.len() - self.held);
         if count == 0 {
-            return Err(fault(&mut self.write_faults));
+            return Err(count_fault(&mut self.write_faults));
         }
         self.output[self.held..self.held + count].copy_from_slice(&piece[..count]);
         self.held += count;

@@ -1,12 +1,13 @@
 // Streams in memory that begin one after the other: the connections of a port or a peer in memory.
 ghost use Rattle.std.specs.Prelude.{◌≡◌, ◌<◌, length, None, option_copied, slice_get};
 ghost use Rattle.std.specs.Io.{ReadsAtMost};
-ghost use Rattle.xcap_io.specs.Causes.{OnlyReads, OnlyWrites};
-ghost use Rattle.xcap_io.specs.Memory.{BeginsLine, LinesRead, LinesWrite, lines_state, next_number};
+ghost use Rattle.xcap_io.specs.StreamStates.{OnlyReads, OnlyWrites};
+ghost use Rattle.xcap_io.specs.MemoryStreams.{BeginsLine, ReadsPresentLine, WritesPresentLine};
+ghost use Rattle.xcap_io.specs.MemoryStreams.{lines_state, next_line_number};
 ghost use Rattle.xcap_io.specs.StreamTraffic.{GivesReadBytes, TakesWrittenBytes};
-ghost use Rattle.xcap_io.specs.Streams.{WritesSome};
+ghost use Rattle.xcap_io.specs.StreamWrites.{WritesSome};
 
-use crate::streams::fault;
+use crate::streams::count_fault;
 use crate::{Failed, Line, MemStream, Sink, Source};
 use std::marker::Model;
 
@@ -21,7 +22,7 @@ pub(crate) struct MemStreams {
 
 impl Model for MemStreams {
     ghost use Rattle.std.specs.Prelude.{◌<◌, ◌≤◌, length};
-    ghost use Rattle.xcap_io.specs.Memory.{MemoryLines, next_number};
+    ghost use Rattle.xcap_io.specs.MemoryStreams.{MemoryLines, next_line_number};
 
     ghost Value = { MemoryLines };
 
@@ -32,7 +33,7 @@ impl Model for MemStreams {
       write_faults = m.write_faults;
     } };
 
-    ghost invariant = { λ m. next_number m.present ≤ length m.lines.items };
+    ghost invariant = { λ m. next_line_number m.present ≤ length m.lines.items };
 }
 
 impl MemStreams {
@@ -68,7 +69,7 @@ impl MemStreams {
             return false;
         }
         let line = &mut self.lines[at];
-        line.begin();
+        line.begin_connection();
         self.present = Some(at);
         true
     }
@@ -85,7 +86,7 @@ impl Source for MemStreams {
         ensures appends_read { GivesReadBytes (lines_state self.old).inward
             (lines_state self.new).inward result buf.new }
         ensures only_reads { OnlyReads (lines_state self.old) (lines_state self.new) result }
-        ensures as_memory_form { LinesRead self.old self.new (length buf.old) result }
+        ensures as_memory_form { ReadsPresentLine self.old self.new (length buf.old) result }
     {
         let Some(at) = self.present else {
             return Ok(0);
@@ -93,7 +94,7 @@ impl Source for MemStreams {
         let line = &mut self.lines[at];
         match line.read(buf) {
             Ok(count) => Ok(count),
-            Err(Failed) => Err(fault(&mut self.read_faults)),
+            Err(Failed) => Err(count_fault(&mut self.read_faults)),
         }
     }
 }
@@ -105,15 +106,15 @@ impl Sink for MemStreams {
         ensures appends_written { TakesWrittenBytes (lines_state self.old).taken
             (lines_state self.new).taken result piece.now }
         ensures only_writes { OnlyWrites (lines_state self.old) (lines_state self.new) result }
-        ensures as_memory_form { LinesWrite self.old self.new piece.now result }
+        ensures as_memory_form { WritesPresentLine self.old self.new piece.now result }
     {
         let Some(at) = self.present else {
-            return Err(fault(&mut self.write_faults));
+            return Err(count_fault(&mut self.write_faults));
         };
         let line = &mut self.lines[at];
         match line.write(piece) {
             Ok(count) => Ok(count),
-            Err(Failed) => Err(fault(&mut self.write_faults)),
+            Err(Failed) => Err(count_fault(&mut self.write_faults)),
         }
     }
 }

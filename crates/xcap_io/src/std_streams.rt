@@ -2,12 +2,13 @@
 ghost use Rattle.std.specs.Prelude.{◌≡◌, ◌<◌, [], length};
 ghost use Rattle.std.specs.Io.{ReadsAtMost};
 ghost use Rattle.std.specs.Io.KnownBytes.{ReadConsumes, WriteAppends};
-ghost use Rattle.xcap_io.specs.Causes.{OnlyReads, OnlyWrites, inward_of, no_inward, no_port};
-ghost use Rattle.xcap_io.specs.Causes.{no_peer};
+ghost use Rattle.xcap_io.specs.StreamStates.{OnlyReads, OnlyWrites, input_state_of, no_input};
+ghost use Rattle.xcap_io.specs.StreamStates.{no_port};
+ghost use Rattle.xcap_io.specs.StreamStates.{no_peer};
 ghost use Rattle.xcap_io.specs.StreamTraffic.{GivesReadBytes, TakesWrittenBytes};
-ghost use Rattle.xcap_io.specs.Streams.{WritesSome};
+ghost use Rattle.xcap_io.specs.StreamWrites.{WritesSome};
 
-use crate::streams::fault;
+use crate::streams::count_fault;
 use crate::traffic_log::TrafficLog;
 use crate::{Failed, Line, Sink, Source};
 use std::io::{Read, Write};
@@ -25,7 +26,7 @@ impl<R: Read> StdSource<R> {
     /// A source over this stream, with no faults yet.
     pub fn new(reader: R) -> StdSource<R>
         ensures nothing_passed { ⟦<StdSource<R> as Line>⟧.state result ≡ record {
-          inward = no_inward;
+          inward = no_input;
           taken = [];
           read_faults = 0;
           write_faults = 0;
@@ -45,7 +46,7 @@ impl<R: Read> StdSource<R> {
 
 impl<R: Read> Line for StdSource<R> {
     ghost state = { λ s. record {
-      inward = inward_of s.log.history.now;
+      inward = input_state_of s.log.history.now;
       taken = [];
       read_faults = s.faults;
       write_faults = 0;
@@ -73,7 +74,7 @@ impl<R: Read> Source for StdSource<R> {
                 self.log.record_read(&buf[..count]);
                 Ok(count)
             }
-            Err(_) => Err(fault(&mut self.faults)),
+            Err(_) => Err(count_fault(&mut self.faults)),
         }
     }
 }
@@ -91,7 +92,7 @@ impl<W: Write> StdSink<W> {
     /// A sink over this stream, with no faults yet.
     pub fn new(writer: W) -> StdSink<W>
         ensures nothing_passed { ⟦<StdSink<W> as Line>⟧.state result ≡ record {
-          inward = no_inward;
+          inward = no_input;
           taken = [];
           read_faults = 0;
           write_faults = 0;
@@ -111,7 +112,7 @@ impl<W: Write> StdSink<W> {
 
 impl<W: Write> Line for StdSink<W> {
     ghost state = { λ s. record {
-      inward = no_inward;
+      inward = no_input;
       taken = s.log.history.now.taken;
       read_faults = 0;
       write_faults = s.faults;
@@ -138,7 +139,7 @@ impl<W: Write> Sink for StdSink<W> {
                 self.log.record_write(&piece[..count]);
                 Ok(count)
             }
-            _ => Err(fault(&mut self.faults)),
+            _ => Err(count_fault(&mut self.faults)),
         }
     }
 }

@@ -2,11 +2,11 @@
 // connections.
 ghost use Rattle.std.specs.Prelude.{◌≡◌, ◌<◌, ◌≤◌, length};
 ghost use Rattle.std.specs.Io.{ReadsAtMost};
-ghost use Rattle.xcap_io.specs.Causes.{StreamState, CountRises, OnlyReads, OnlyWrites};
-ghost use Rattle.xcap_io.specs.Connections.{Listens, OnlyNext, ConnectsOnly};
-ghost use Rattle.xcap_io.specs.Memory.{one_more};
+ghost use Rattle.xcap_io.specs.StreamStates.{StreamState, CountRises, OnlyReads, OnlyWrites};
+ghost use Rattle.xcap_io.specs.Connections.{Listens, OnlyAcceptsNext, OnlyConnects};
+ghost use Rattle.xcap_io.specs.MemoryStreams.{count_plus_one};
 ghost use Rattle.xcap_io.specs.StreamTraffic.{GivesReadBytes, TakesWrittenBytes};
-ghost use Rattle.xcap_io.specs.Streams.{WritesSome};
+ghost use Rattle.xcap_io.specs.StreamWrites.{WritesSome};
 
 /// A call on a stream failed. The stream's counter of such faults rose in that call, or is at the
 /// greatest `u64`.
@@ -14,8 +14,8 @@ ghost use Rattle.xcap_io.specs.Streams.{WritesSome};
 pub struct Failed;
 
 /// Adds 1 to a fault counter, which stops at the greatest `u64`.
-pub fn fault(count: &mut u64) -> Failed
-    ensures counts_one_more { count.new ≡ one_more count.old }
+pub fn count_fault(count: &mut u64) -> Failed
+    ensures counts_one_more { count.new ≡ count_plus_one count.old }
     ensures count_never_falls { count.old ≤ count.new }
     ensures count_rises { CountRises count.old count.new }
 {
@@ -61,13 +61,13 @@ pub trait Port: Source + Sink {
 
     /// Ends the present connection and accepts the next one. False where no more will come.
     fn next(&mut self) -> Result<bool, Failed>
-        ensures only_next { OnlyNext (Self.state self.old) (Self.state self.new) result };
+        ensures only_next { OnlyAcceptsNext (Self.state self.old) (Self.state self.new) result };
 }
 
 /// Makes connections, one after the other. Reads and writes go to the present connection.
 pub trait Peer: Source + Sink {
     /// Ends the present connection and connects to this address.
     fn connect(&mut self, address: &str) -> Result<(), Failed>
-        ensures only_connects { ConnectsOnly (Self.state self.old)
+        ensures only_connects { OnlyConnects (Self.state self.old)
             (Self.state self.new) result address.now };
 }

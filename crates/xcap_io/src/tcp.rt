@@ -3,17 +3,18 @@
 ghost use Rattle.std.specs.Prelude.{◌≡◌, ◌<◌, ◌≤◌, [], None, Some, false, length, take, IfOk, OnOk};
 ghost use Rattle.std.specs.Prelude.{OnErr, IsSome, IfSome, IsTrue, MatchResult};
 ghost use Rattle.std.specs.Io.{ReadsAtMost};
-ghost use Rattle.xcap_io.specs.Causes.{Counts, OnlyReads, OnlyWrites, inward_of, no_inward};
-ghost use Rattle.xcap_io.specs.Causes.{no_peer, none_begun};
-ghost use Rattle.xcap_io.specs.Connections.{Listens, OnlyNext, port_traffic};
-ghost use Rattle.xcap_io.specs.Histories.{with_given, with_taken};
-ghost use Rattle.xcap_io.specs.Memory.{latest};
+ghost use Rattle.xcap_io.specs.StreamStates.{CountsFaults, OnlyReads, OnlyWrites, input_state_of};
+ghost use Rattle.xcap_io.specs.StreamStates.{no_input};
+ghost use Rattle.xcap_io.specs.StreamStates.{no_peer, no_connections};
+ghost use Rattle.xcap_io.specs.Connections.{Listens, OnlyAcceptsNext, port_traffic};
+ghost use Rattle.xcap_io.specs.ConnectionHistories.{with_read, with_write};
+ghost use Rattle.xcap_io.specs.MemoryStreams.{latest_address};
 ghost use Rattle.xcap_io.specs.StreamTraffic.{GivesReadBytes, TakesWrittenBytes};
-ghost use Rattle.xcap_io.specs.Sockets.{ReadsStream, WritesStream};
-ghost use Rattle.xcap_io.specs.Streams.{WritesSome};
+ghost use Rattle.xcap_io.specs.SocketStreams.{ReadsStream, WritesStream};
+ghost use Rattle.xcap_io.specs.StreamWrites.{WritesSome};
 
 use crate::address_history::AddressHistory;
-use crate::streams::fault;
+use crate::streams::count_fault;
 use crate::traffic_log::TrafficLog;
 use crate::{Failed, Line, Port, Sink, Source};
 use std::io::{Read, Write};
@@ -36,7 +37,7 @@ pub struct TcpPort<N: Net + Clock + Drop> {
     net: N,
     listener: Option<N::Listener>,
     stream: Option<N::Stream>,
-    last_moment: Option<Instant>,
+    connection_deadline: Option<Instant>,
     log: TrafficLog,
     addresses: AddressHistory,
     read_faults: u64,
@@ -48,13 +49,18 @@ impl<N: Net + Clock + Drop> TcpPort<N> {
     /// A port that does not listen yet.
     pub fn new(net: N) -> TcpPort<N>
         ensures nothing_passed { ⟦<TcpPort<N> as Line>⟧.state result ≡ record {
-          inward = no_inward;
+          inward = no_input;
           taken = [];
           read_faults = 0;
           write_faults = 0;
           holds = [];
           aside = [];
-          port = record { listening = Some None; to_come = None; begun = none_begun; faults = 0 };
+          port = record {
+            listening = Some None;
+            to_come = None;
+            begun = no_connections;
+            faults = 0;
+          };
           peer = no_peer;
         } }
     {
@@ -62,7 +68,7 @@ impl<N: Net + Clock + Drop> TcpPort<N> {
             net,
             listener: None,
             stream: None,
-            last_moment: None,
+            connection_deadline: None,
             log: TrafficLog::new(),
             addresses: AddressHistory::new(),
             read_faults: 0,
@@ -74,14 +80,14 @@ impl<N: Net + Clock + Drop> TcpPort<N> {
 
 impl<N: Net + Clock + Drop> Line for TcpPort<N> {
     ghost state = { λ p. record {
-      inward = inward_of p.log.history.now;
+      inward = input_state_of p.log.history.now;
       taken = p.log.history.now.taken;
       read_faults = p.read_faults;
       write_faults = p.write_faults;
       holds = [];
       aside = [];
       port = record {
-        listening = Some (latest p.addresses.texts);
+        listening = Some (latest_address p.addresses.texts);
         to_come = None;
         begun = record { earlier = p.log.history.earlier; is_present = p.log.history.is_present };
         faults = p.faults;
@@ -98,12 +104,12 @@ pub(crate) fn read_from<S: Read>(
     buf: &mut [u8],
 ) -> Result<usize, Failed>
     ensures in_bounds { ReadsAtMost result buf.new }
-    ensures faults_never_fall { Counts faults.old faults.new result }
+    ensures faults_never_fall { CountsFaults faults.old faults.new result }
     ensures count_never_falls { faults.old ≤ faults.new }
     ensures from_stream { ReadsStream
         (record { bytes = S.remaining; old = stream.old; new = stream.new }) result buf.new }
     ensures logs_traffic { MatchResult result
-        (λ n. log.new.history ≡ with_given log.old.history (take n buf.new))
+        (λ n. log.new.history ≡ with_read log.old.history (take n buf.new))
         (λ _. log.new.history ≡ log.old.history) }
 {
     match stream {
@@ -112,9 +118,9 @@ pub(crate) fn read_from<S: Read>(
                 log.record_read(&buf[..count]);
                 Ok(count)
             }
-            Err(_) => Err(fault(faults)),
+            Err(_) => Err(count_fault(faults)),
         },
-        None => Err(fault(faults)),
+        None => Err(count_fault(faults)),
     }
 }
 
@@ -127,12 +133,12 @@ pub(crate) fn write_to<S: Write>(
     piece: &[u8],
 ) -> Result<usize, Failed>
     ensures in_bounds { WritesSome result piece.now }
-    ensures faults_never_fall { Counts faults.old faults.new result }
+    ensures faults_never_fall { CountsFaults faults.old faults.new result }
     ensures count_never_falls { faults.old ≤ faults.new }
     ensures to_stream { WritesStream
         (record { bytes = S.contents; old = stream.old; new = stream.new }) result piece.now }
     ensures logs_traffic { MatchResult result
-        (λ n. log.new.history ≡ with_taken log.old.history (take n piece.now))
+        (λ n. log.new.history ≡ with_write log.old.history (take n piece.now))
         (λ _. log.new.history ≡ log.old.history) }
 {
     match stream {
@@ -141,9 +147,9 @@ pub(crate) fn write_to<S: Write>(
                 log.record_write(&piece[..count]);
                 Ok(count)
             }
-            _ => Err(fault(faults)),
+            _ => Err(count_fault(faults)),
         },
-        None => Err(fault(faults)),
+        None => Err(count_fault(faults)),
     }
 }
 
@@ -153,13 +159,13 @@ fn accept_next<L: OpenListener>(listener: &Option<L>) -> Option<L::Stream>
     ensures some_while_listening { IfSome result (λ _. IsSome listener.now) }
 {
     match listener {
-        Some(listener) => accept_whole(listener),
+        Some(listener) => accept_unbroken(listener),
         None => None,
     }
 }
 
 // The next connection that did not break before it was accepted.
-fn accept_whole<L: OpenListener>(listener: &L) -> Option<L::Stream> {
+fn accept_unbroken<L: OpenListener>(listener: &L) -> Option<L::Stream> {
     for _ in 0..BROKEN_CONNECTIONS {
         match system_calls::accept(listener) {
             Accepted::Connection(stream) => return Some(stream),
@@ -181,7 +187,7 @@ fn set_options<S: OpenStream>(stream: &S) {
 
 // The moment after which calls on a connection that begins now fail: in 5 minutes. None where the
 // clock can't be read.
-fn last_moment<C: Clock>(clock: &C) -> Option<Instant> {
+fn connection_deadline<C: Clock>(clock: &C) -> Option<Instant> {
     system_calls::now(clock)?.checked_add(Duration::from_secs(300))
 }
 
@@ -208,8 +214,8 @@ impl<N: Net + Clock + Drop> Source for TcpPort<N> {
         }) result buf.new }
         ensures same_listener { self.new.listener ≡ self.old.listener }
     {
-        if has_passed(&self.net, self.last_moment) {
-            return Err(fault(&mut self.read_faults));
+        if has_passed(&self.net, self.connection_deadline) {
+            return Err(count_fault(&mut self.read_faults));
         }
         read_from(&mut self.stream, &mut self.log, &mut self.read_faults, buf)
     }
@@ -230,8 +236,8 @@ impl<N: Net + Clock + Drop> Sink for TcpPort<N> {
         }) result piece.now }
         ensures same_listener { self.new.listener ≡ self.old.listener }
     {
-        if has_passed(&self.net, self.last_moment) {
-            return Err(fault(&mut self.write_faults));
+        if has_passed(&self.net, self.connection_deadline) {
+            return Err(count_fault(&mut self.write_faults));
         }
         write_to(
             &mut self.stream,
@@ -257,13 +263,13 @@ impl<N: Net + Clock + Drop> Port for TcpPort<N> {
                 self.addresses.add(address.as_bytes());
                 Ok(())
             }
-            Err(_) => Err(fault(&mut self.faults)),
+            Err(_) => Err(count_fault(&mut self.faults)),
         }
     }
 
     // More connections may always come.
     fn next(&mut self) -> Result<bool, Failed>
-        ensures only_next { OnlyNext
+        ensures only_next { OnlyAcceptsNext
             (⟦<TcpPort<N> as Line>⟧.state self.old) (⟦<TcpPort<N> as Line>⟧.state self.new) result }
         ensures never_ends { IfOk result (λ begins. IsTrue begins) }
         ensures has_listener { OnOk result (IsSome self.old.listener) }
@@ -279,16 +285,16 @@ impl<N: Net + Clock + Drop> Port for TcpPort<N> {
     {
         // The client waits for the end of the present connection, so it is closed first.
         self.stream = None;
-        self.log.end();
+        self.log.record_end();
         match accept_next(&self.listener) {
             Some(stream) => {
                 set_options(&stream);
-                self.last_moment = last_moment(&self.net);
+                self.connection_deadline = connection_deadline(&self.net);
                 self.stream = Some(stream);
-                self.log.begin();
+                self.log.record_begin();
                 Ok(true)
             }
-            None => Err(fault(&mut self.faults)),
+            None => Err(count_fault(&mut self.faults)),
         }
     }
 }

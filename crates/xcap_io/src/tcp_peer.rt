@@ -1,15 +1,16 @@
 // Outgoing connections over real sockets.
 ghost use Rattle.std.specs.Prelude.{◌≡◌, ◌<◌, [], None, false, length, OnOk, OnErr, IsSome};
 ghost use Rattle.std.specs.Io.{ReadsAtMost};
-ghost use Rattle.xcap_io.specs.Causes.{OnlyReads, OnlyWrites, inward_of, no_inward, no_port};
-ghost use Rattle.xcap_io.specs.Causes.{no_peer};
-ghost use Rattle.xcap_io.specs.Connections.{ConnectsOnly, peer_traffic};
+ghost use Rattle.xcap_io.specs.StreamStates.{OnlyReads, OnlyWrites, input_state_of, no_input};
+ghost use Rattle.xcap_io.specs.StreamStates.{no_port};
+ghost use Rattle.xcap_io.specs.StreamStates.{no_peer};
+ghost use Rattle.xcap_io.specs.Connections.{OnlyConnects, peer_traffic};
 ghost use Rattle.xcap_io.specs.StreamTraffic.{GivesReadBytes, TakesWrittenBytes};
-ghost use Rattle.xcap_io.specs.Sockets.{ReadsStream, WritesStream};
-ghost use Rattle.xcap_io.specs.Streams.{WritesSome};
+ghost use Rattle.xcap_io.specs.SocketStreams.{ReadsStream, WritesStream};
+ghost use Rattle.xcap_io.specs.StreamWrites.{WritesSome};
 
 use crate::address_history::AddressHistory;
-use crate::streams::fault;
+use crate::streams::count_fault;
 use crate::tcp::{read_from, write_to};
 use crate::traffic_log::TrafficLog;
 use crate::{Failed, Line, Peer, Sink, Source};
@@ -33,7 +34,7 @@ impl<N: Net + Drop> TcpPeer<N> {
     /// A peer with no connection yet.
     pub fn new(net: N) -> TcpPeer<N>
         ensures nothing_passed { ⟦<TcpPeer<N> as Line>⟧.state result ≡ record {
-          inward = no_inward;
+          inward = no_input;
           taken = [];
           read_faults = 0;
           write_faults = 0;
@@ -57,7 +58,7 @@ impl<N: Net + Drop> TcpPeer<N> {
 
 impl<N: Net + Drop> Line for TcpPeer<N> {
     ghost state = { λ p. record {
-      inward = inward_of p.log.history.now;
+      inward = input_state_of p.log.history.now;
       taken = p.log.history.now.taken;
       read_faults = p.read_faults;
       write_faults = p.write_faults;
@@ -116,7 +117,7 @@ impl<N: Net + Drop> Sink for TcpPeer<N> {
 
 impl<N: Net + Drop> Peer for TcpPeer<N> {
     fn connect(&mut self, address: &str) -> Result<(), Failed>
-        ensures only_connects { ConnectsOnly
+        ensures only_connects { OnlyConnects
             (⟦<TcpPeer<N> as Line>⟧.state self.old)
             (⟦<TcpPeer<N> as Line>⟧.state self.new) result address.now }
         ensures stream_present { OnOk result (IsSome self.new.stream) }
@@ -130,17 +131,17 @@ impl<N: Net + Drop> Peer for TcpPeer<N> {
     {
         // The present connection is closed first.
         self.stream = None;
-        self.log.end();
+        self.log.record_end();
         match system_calls::connect(&self.net, address) {
             Ok(stream) => {
                 // Requests are few and large, so they are sent at once.
                 system_calls::set_nodelay(&stream);
                 self.stream = Some(stream);
                 self.addresses.add(address.as_bytes());
-                self.log.begin();
+                self.log.record_begin();
                 Ok(())
             }
-            Err(_) => Err(fault(&mut self.faults)),
+            Err(_) => Err(count_fault(&mut self.faults)),
         }
     }
 }

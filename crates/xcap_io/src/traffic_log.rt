@@ -2,8 +2,9 @@
 // run time.
 ghost use Rattle.std.specs.Prelude.{◌≡◌};
 ghost use Rattle.std.specs.Borrow.{ftrue};
-ghost use Rattle.xcap_io.specs.Histories.{ConnectionHistory, no_history, with_end, with_given};
-ghost use Rattle.xcap_io.specs.Histories.{with_next, with_taken};
+ghost use Rattle.xcap_io.specs.ConnectionHistories.{ConnectionHistory, no_history};
+ghost use Rattle.xcap_io.specs.ConnectionHistories.{with_connection_end, with_read};
+ghost use Rattle.xcap_io.specs.ConnectionHistories.{with_next_connection, with_write};
 
 use std::marker::Model;
 
@@ -28,21 +29,21 @@ impl TrafficLog {
 
     /// Records a read that gave these bytes; no bytes mean the end of the input.
     pub fn record_read(&mut self, _bytes: &[u8])
-        ensures given_is_logged { self.new.history ≡ with_given self.old.history _bytes.now }
+        ensures given_is_logged { self.new.history ≡ with_read self.old.history _bytes.now }
     {}
 
     /// Records a write of these bytes.
     pub fn record_write(&mut self, _bytes: &[u8])
-        ensures taken_is_logged { self.new.history ≡ with_taken self.old.history _bytes.now }
+        ensures taken_is_logged { self.new.history ≡ with_write self.old.history _bytes.now }
     {}
 
     /// The present connection ended, if there was one.
-    pub fn end(&mut self)
-        ensures connection_ended { self.new.history ≡ with_end self.old.history }
+    pub fn record_end(&mut self)
+        ensures connection_ended { self.new.history ≡ with_connection_end self.old.history }
     {}
 
     /// A new connection began, after those that ended.
-    pub fn begin(&mut self)
-        ensures next_is_logged { self.new.history ≡ with_next self.old.history }
+    pub fn record_begin(&mut self)
+        ensures next_is_logged { self.new.history ≡ with_next_connection self.old.history }
     {}
 }

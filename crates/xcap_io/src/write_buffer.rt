@@ -1,6 +1,6 @@
 // A write buffer, so that a sink gets few large pieces.
 ghost use Rattle.std.specs.Prelude.{◌≡◌, ◌-◌, ◌≤◌, [], ◌++◌, length, OnOk};
-ghost use Rattle.xcap_io.specs.Adds.{Adds};
+ghost use Rattle.xcap_io.specs.BufferedWrites.{BuffersBytes};
 
 use crate::{Failed, Sink, write_all};
 use std::marker::Model;
@@ -44,7 +44,7 @@ impl WriteBuffer {
         &self.bytes[..self.held]
     }
 
-    fn room(&self) -> usize
+    fn free_len(&self) -> usize
         ensures exact { result ≡ 8192 - length self.now }
     {
         ROOM - self.held
@@ -56,7 +56,7 @@ impl WriteBuffer {
         self.held = 0;
     }
 
-    fn hold(&mut self, piece: &[u8])
+    fn append(&mut self, piece: &[u8])
         requires { length piece.now ≤ 8192 - length self.old }
         ensures exact { self.new ≡ self.old ++ piece.now }
     {
@@ -70,7 +70,7 @@ impl WriteBuffer {
 /// prefix of them was taken.
 #[tactic(auto, using(crate::proofs::BufferPieces::adding))]
 pub fn flush<S: Sink>(sink: &mut S, write_buffer: &mut WriteBuffer) -> Result<(), Failed>
-    ensures flushes_in_order { Adds
+    ensures flushes_in_order { BuffersBytes
         (record { sink = S.state sink.old; held = write_buffer.old })
         (record { sink = S.state sink.new; held = write_buffer.new }) result [] }
     ensures leaves_nothing_gathered { OnOk result (write_buffer.new ≡ []) }
@@ -88,17 +88,17 @@ pub fn put<S: Sink>(
     write_buffer: &mut WriteBuffer,
     piece: &[u8],
 ) -> Result<(), Failed>
-    ensures appends_piece { Adds
+    ensures appends_piece { BuffersBytes
         (record { sink = S.state sink.old; held = write_buffer.old })
         (record { sink = S.state sink.new; held = write_buffer.new }) result piece.now }
 {
-    if piece.len() <= write_buffer.room() {
-        write_buffer.hold(piece);
+    if piece.len() <= write_buffer.free_len() {
+        write_buffer.append(piece);
         return Ok(());
     }
     flush(sink, write_buffer)?;
     if piece.len() <= ROOM {
-        write_buffer.hold(piece);
+        write_buffer.append(piece);
         return Ok(());
     }
     write_all(sink, piece)

@@ -5,64 +5,64 @@ use Rattle.std.proofs.lemmas.Bool.{cases_lt}
 use Rattle.std.specs.Str.{chars}
 use Rattle.xml_names.specs.Limits.{u64_max}
 use Rattle.xml_tree.specs.Tree.{Tree}
-use Rattle.doc_names.specs.Equality.{same_id}
-use Rattle.doc_names.specs.Ids.{IsAddressable, id_text}
+use Rattle.doc_names.specs.NameEquality.{same_id}
+use Rattle.doc_names.specs.DocIds.{IsAddressable, id_text}
 use Rattle.doc_names.specs.declared.doc_id.DocId.{DocId}
 use Rattle.doc_names.specs.declared.doc_id.Home.{Home}
 use Rattle.doc_names.specs.declared.doc_id.Home.TheVariants.{User}
 use Rattle.http_wire.specs.declared.request.Request.{Request}
 use Rattle.request_checks.specs.Methods.{method_of}
-use Rattle.reply_text.specs.ReplyHeads.{HeadFields, SentReply, bytes_of, sent}
+use Rattle.reply_text.specs.ReplyHeads.{HeadFields, SentReply, reply_bytes, sent_reply}
 use Rattle.request_checks.specs.declared.method.Method.TheVariants.{Get, Head}
-use Rattle.store_core.specs.Contents.{stock_of}
+use Rattle.store_core.specs.Contents.{contents_of}
 use Rattle.store_core.specs.State.{Document, State, Version, versions}
-use Rattle.store_core.specs.ValidStates.{IsKept, IsUserDocument, IsValidState}
+use Rattle.store_core.specs.ValidStates.{IsValidDocument, IsUserHome, IsValidState}
 use Rattle.patch_rules.specs.Replay.{ReplicaContents}
-use Rattle.patch_apply.specs.Views.{stored_in}
+use Rattle.patch_apply.specs.Views.{replica_view}
 use Rattle.patch_apply.specs.declared.replica.ReplicaVersion.{ReplicaVersion}
-use Rattle.xcap_io.specs.Causes.{StreamState}
+use Rattle.xcap_io.specs.StreamStates.{StreamState}
 use Rattle.xcap_io.specs.Connections.{peer_traffic}
-use Rattle.xcap_io.specs.Histories.{Traffic}
+use Rattle.xcap_io.specs.ConnectionHistories.{Traffic}
 use Rattle.xcap_uri.specs.Roots.{IsRoot, authority_of, path_of, slash}
-use Rattle.xcap_uri.specs.Targets.{TargetResult}
-use Rattle.xcap_uri.specs.Shapes.{tag_spelled}
+use Rattle.xcap_uri.specs.Targets.{IsTargetResult}
+use Rattle.xcap_uri.specs.Shapes.{parse_tag}
 use Rattle.xcap_uri.specs.declared.target.Mode.{Mode}
 use Rattle.xcap_uri.specs.declared.target.Mode.TheVariants.{Aggregate}
 use Rattle.xcap_uri.specs.declared.target.Target.TheVariants.{Feed}
 use Rattle.xcap_uri.specs.declared.target.Target.TheVariants.{Document as a_document}
 use Rattle.xcap_client.specs.Asks.{get_ask}
-use Rattle.xcap_client.specs.Calls.{Calls, Judges, JudgesAll}
+use Rattle.xcap_client.specs.Calls.{MakesCall, JudgesResponse, JudgesExchange}
 use Rattle.xcap_client.specs.Connections.{ConnectsOnce, none_began, broke_off, responded}
-use Rattle.xcap_client.specs.Exchanges.{answer_to, exchange_fault}
-use Rattle.xcap_client.specs.ParsedRequests.{meant}
-use Rattle.xcap_client.specs.Responses.{DecidesNothing, IsDecided, IsResponseOf}
-use Rattle.xcap_client.specs.Stops.{ByCause}
+use Rattle.xcap_client.specs.Exchanges.{exchange_result, exchange_fault}
+use Rattle.xcap_client.specs.ParsedRequests.{request_of_ask}
+use Rattle.xcap_client.specs.Responses.{DecidesNothing, IsDecidedResponse, IsResponseOf}
+use Rattle.xcap_client.specs.ReadFaults.{HoldsByCause}
 use Rattle.xcap_client.specs.declared.body_length.TheConstants.{MAX_RESPONSE_BODY_BYTES}
-use Rattle.xcap_client.specs.declared.fault.ClientFault.{ClientFault}
-use Rattle.xcap_client.specs.declared.fault.ClientFault.TheVariants as clients
+use Rattle.xcap_client.specs.declared.client_fault.ClientFault.{ClientFault}
+use Rattle.xcap_client.specs.declared.client_fault.ClientFault.TheVariants as clients
 use Rattle.xcap_client.specs.declared.request.Ask.{Ask}
 use Rattle.xcap_client.specs.declared.response.Response.{Response}
 use Rattle.xcap_client.specs.declared.response_fault.ResponseFault.{ResponseFault}
 use Rattle.xcap_client.specs.declared.response_fault.ResponseFault.TheVariants as faults
 use Rattle.xcap_client.proofs.CallTraffic.{connects_once}
 use Rattle.xcap_client.proofs.OneMeaning.{one_meaning}
-use Rattle.client_follower.specs.Documents.{Fetches, TakesDocument, is_refused_with}
-use Rattle.client_follower.specs.Faults.{of_client}
-use Rattle.client_follower.specs.Feeds.{TakesFeed}
-use Rattle.client_follower.specs.Paths.{feed_path}
-use Rattle.client_follower.specs.Rounds.{AsksFeed, HoldsFetched, Refetches, Rounds, holds_nothing, asks, by_feed, by_document, failed}
-use Rattle.client_follower.specs.States.{Following}
-use Rattle.client_follower.specs.declared.fault.FollowerFault.{FollowerFault}
+use Rattle.client_follower.specs.FetchedDocuments.{FetchesDocument, TakesDocument, is_refused_with}
+use Rattle.client_follower.specs.FollowerFaults.{fault_of_client}
+use Rattle.client_follower.specs.FeedResults.{TakesFeed}
+use Rattle.client_follower.specs.FeedPaths.{feed_path}
+use Rattle.client_follower.specs.Rounds.{AsksFeed, HoldsFetchedVersion, RefetchesDocument, RunsRound, holds_nothing, asks, by_feed, by_document, failed}
+use Rattle.client_follower.specs.FollowerStates.{FollowerState}
+use Rattle.client_follower.specs.declared.follower_fault.FollowerFault.{FollowerFault}
 use Rattle.client_follower.specs.declared.feed_rounds.Round.{Round}
 use Rattle.client_theorem.specs.FeedRequests.{AsksForFeed, HasFeed, feed_address, feed_request}
-use Rattle.xcap_machine.specs.Answers.{unchanged}
+use Rattle.xcap_machine.specs.Answers.{reply_only}
 use Rattle.xcap_machine.specs.Machine.{ValidStep}
-use Rattle.xcap_machine.specs.Subscribers.{subscribed}
-use Rattle.xcap_machine.specs.Versions.{ComesTo, HasVersion}
+use Rattle.xcap_machine.specs.SubscriberReplicas.{replica_of_version}
+use Rattle.xcap_machine.specs.ReachedStates.{ReachesByValidSteps, HasVersion}
 use Rattle.xcap_machine.proofs.OneVersion.{found_all}
-use Rattle.xcap_laws.specs.Followers.{HoldsVersion, IsAnsweredIn, IsPresentIn, IsServedIn}
+use Rattle.xcap_laws.specs.Followers.{HoldsVersion, IsAnsweredInState, IsCurrentReplica, IsServedInState}
 use Rattle.xcap_laws.proofs.FollowedAddresses.{document_asked, feed_asked}
-use Rattle.xcap_laws.specs.ReadReplies.{IsWhole, answer as of_the_machine, response_to}
+use Rattle.xcap_laws.specs.ReadReplies.{IsCompleteReply, answer as of_the_machine, response_of_reply}
 use Rattle.xcap_laws.proofs.Followers.{IsReceivedAs, document_leads, emptied, feed_leads, no_outcome}
 use Rattle.xcap_laws.proofs.ReplyKinds.{framed_reply, is_refused}
 use Rattle.xcap_laws.proofs.ReplyReadings.{IsFramedBy, says_back}
@@ -75,36 +75,36 @@ last_alike [] (b ∷ ys) x y e = absurd (omega (arith, ap length e, length-appen
 last_alike (a ∷ xs) [] x y e = absurd (omega (arith, ap length e, length-append xs (x ∷ [])))
 last_alike (a ∷ xs) (b ∷ ys) x y e = let tail : xs ++ x ∷ [] ≡ ys ++ y ∷ [] = cc in last_alike xs ys x y tail
 
-said : (given : List ℕ) (ended : Bool) (answer : Result Response ResponseFault) → IsDecided given ended answer → IsResponseOf given answer
+said : (given : List ℕ) (ended : Bool) (answer : Result Response ResponseFault) → IsDecidedResponse given ended answer → IsResponseOf given answer
 said given ended answer (inl always) = subst (λ (b : List ℕ). IsResponseOf b answer) (append-nil given) (always [])
 said given ended answer (inr here) = here.1
 
 -- a client that read a response on a connection whose bytes begin with the machine's reply received that reply
-module _ (root : List ℕ) (n : State) (ask : Ask) (get : method_of (meant root ask).method ≡ Get) (given : List ℕ) (a : IsAnsweredIn root n ask given) (r : Response) (says : IsResponseOf given (Ok r)) where
-  whole : IsWhole a.reply
-  whole = of_the_machine root (stock_of n) (meant root ask) (unchanged a.reply) a.answers.1.answers (λ head. let never : Get ≡ Head = sym get ∙ head in cc) refl
+module _ (root : List ℕ) (n : State) (ask : Ask) (get : method_of (request_of_ask root ask).method ≡ Get) (given : List ℕ) (a : IsAnsweredInState root n ask given) (r : Response) (says : IsResponseOf given (Ok r)) where
+  whole : IsCompleteReply a.reply
+  whole = of_the_machine root (contents_of n) (request_of_ask root ask) (reply_only a.reply) a.answers.1.answers (λ head. let never : Get ≡ Head = sym get ∙ head in cc) refl
 
-  is_read : IsResponseOf (bytes_of a.reply ++ a.more) (Ok r)
+  is_read : IsResponseOf (reply_bytes a.reply ++ a.more) (Ok r)
   is_read = subst (λ (b : List ℕ). IsResponseOf b (Ok r)) a.begins says
 
   -- a body beyond the client's limit would have been refused
   short : length a.reply.body ≤ MAX_RESPONSE_BODY_BYTES
   short = elim (cases_lt MAX_RESPONSE_BODY_BYTES (length a.reply.body)) [
-    | inl long ↦ (let never : ◌≡◌ {A = Result Response ResponseFault} (Err (faults.TooLong (length a.reply.body))) (Ok r) = one_meaning (bytes_of a.reply ++ a.more) (Err (faults.TooLong (length a.reply.body))) (Ok r) (is_refused a.reply a.more (record { whole = whole; countable = a.countable }) long) is_read in cc)
+    | inl long ↦ (let never : ◌≡◌ {A = Result Response ResponseFault} (Err (faults.TooLong (length a.reply.body))) (Ok r) = one_meaning (reply_bytes a.reply ++ a.more) (Err (faults.TooLong (length a.reply.body))) (Ok r) (is_refused a.reply a.more (record { whole = whole; countable = a.countable }) long) is_read in cc)
     | inr within ↦ within
   ]
 
-  read_as : (fields : HeadFields) → a.reply ≡ sent fields a.reply.body → IsFramedBy fields a.reply.body → r ≡ response_to a.reply fields.tag
+  read_as : (fields : HeadFields) → a.reply ≡ sent_reply fields a.reply.body → IsFramedBy fields a.reply.body → r ≡ response_of_reply a.reply fields.tag
   read_as fields is framed =
-      let here = subst (λ (x : SentReply). IsResponseOf (bytes_of x ++ a.more) (Ok (response_to x fields.tag))) (sym is) (says_back fields a.reply.body a.more framed short) in
-      let same : ◌≡◌ {A = Result Response ResponseFault} (Ok r) (Ok (response_to a.reply fields.tag)) = one_meaning (bytes_of a.reply ++ a.more) (Ok r) (Ok (response_to a.reply fields.tag)) is_read here in
+      let here = subst (λ (x : SentReply). IsResponseOf (reply_bytes x ++ a.more) (Ok (response_of_reply x fields.tag))) (sym is) (says_back fields a.reply.body a.more framed short) in
+      let same : ◌≡◌ {A = Result Response ResponseFault} (Ok r) (Ok (response_of_reply a.reply fields.tag)) = one_meaning (reply_bytes a.reply ++ a.more) (Ok r) (Ok (response_of_reply a.reply fields.tag)) is_read here in
       cc
 
   received : IsReceivedAs a.reply r
   received =
       let f = framed_reply a.reply whole in
       let body : f.body ≡ a.reply.body = ap (λ (x : SentReply). x.body) (sym f.is_sent) in
-      let is = read_as f.fields (f.is_sent ∙ ap (sent f.fields) body) (subst (IsFramedBy f.fields) body f.framed) in
+      let is = read_as f.fields (f.is_sent ∙ ap (sent_reply f.fields) body) (subst (IsFramedBy f.fields) body f.framed) in
       record {
         status = ap (λ (x : Response). x.status) is;
         body = ap (λ (x : Response). x.body) is;
@@ -114,13 +114,13 @@ module _ (root : List ℕ) (n : State) (ask : Ask) (get : method_of (meant root 
 -- a call over the last connection is judged by the machine's reply
 record IsCalled (root : List ℕ) (n : State) (ask : Ask) (given : Result Response ClientFault) : Type 0 where
   reply : SentReply
-  answers : ValidStep root n (meant root ask) reply n None
+  answers : ValidStep root n (request_of_ask root ask) reply n None
   response : Response
   received_as : IsReceivedAs reply response
-  judged : Judges response given
+  judged : JudgesResponse response given
 
-called : (root : List ℕ) (n : State) (ask : Ask) → method_of (meant root ask).method ≡ Get → (old new : StreamState) (given : Result Response ClientFault) (earlier : List Traffic) (last : Traffic) → Calls root ask old new given → peer_traffic new ≡ earlier ++ last ∷ []
-    → IsServedIn root n last → (given ≡ Err clients.NoMemory → ⊥) → (given ≡ Err clients.PeerFault → ⊥) → ((fault : ResponseFault) → given ≡ Err (clients.BadResponse fault) → ⊥) → IsCalled root n ask given
+called : (root : List ℕ) (n : State) (ask : Ask) → method_of (request_of_ask root ask).method ≡ Get → (old new : StreamState) (given : Result Response ClientFault) (earlier : List Traffic) (last : Traffic) → MakesCall root ask old new given → peer_traffic new ≡ earlier ++ last ∷ []
+    → IsServedInState root n last → (given ≡ Err clients.NoMemory → ⊥) → (given ≡ Err clients.PeerFault → ⊥) → ((fault : ResponseFault) → given ≡ Err (clients.BadResponse fault) → ⊥) → IsCalled root n ask given
 called root n ask get old new given earlier last call ends served memory peer broken = by (connects_once root ask old new given call)
   where
     no_fault : (fault : ResponseFault) → given ≡ Err (exchange_fault fault) → ⊥
@@ -132,7 +132,7 @@ called root n ask get old new given earlier last call ends served memory peer br
     no_fault (faults.TooLong k) e = broken (faults.TooLong k) e
     no_fault (faults.Short k l) e = broken (faults.Short k l) e
 
-    by_answer : (passed : Traffic) → IsAnsweredIn root n ask passed.given → (answer : Result Response ResponseFault) → ByCause answer (DecidesNothing passed.given) (IsDecided passed.given passed.ended) → JudgesAll (answer_to answer) given → IsCalled root n ask given
+    by_answer : (passed : Traffic) → IsAnsweredInState root n ask passed.given → (answer : Result Response ResponseFault) → HoldsByCause answer (DecidesNothing passed.given) (IsDecidedResponse passed.given passed.ended) → JudgesExchange (exchange_result answer) given → IsCalled root n ask given
     by_answer passed a (Ok r) cause judged = record {
       reply = a.reply;
       answers = a.answers;
@@ -148,7 +148,7 @@ called root n ask get old new given earlier last call ends served memory peer br
     by (broke_off passed began prefix e) = absurd (peer e)
     by (responded passed answer began taken cause judged) =
         let same : last ≡ passed = last_alike earlier (peer_traffic old) last passed (sym ends ∙ began.behind) in
-        by_answer passed (subst (λ (t : Traffic). IsServedIn root n t) same served ask taken) answer cause judged
+        by_answer passed (subst (λ (t : Traffic). IsServedInState root n t) same served ask taken) answer cause judged
 
 -- ---- tags
 
@@ -159,7 +159,7 @@ some_tag next (x ∷ vs) (suc k) v h is = some_tag next vs k v h.1 is
 
 has_tag : (m : State) (id : DocId) (v : Version) → IsValidState m → HasVersion m id v → 1 ≤ v.tag
 has_tag m id v kept h =
-    let d : IsKept m.next h.document = found_all (IsKept m.next) (λ x. same_id id x.id) m.documents h.document kept.documents h.there in
+    let d : IsValidDocument m.next h.document = found_all (IsValidDocument m.next) (λ x. same_id id x.id) m.documents h.document kept.documents h.there in
     some_tag m.next (versions h.document) h.number v d.tags h.is_version
 
 -- the tag of a replica
@@ -173,67 +173,67 @@ reads : method_of (codes "GET") ≡ Get
 unfolding method_of chars
 reads = refl
 
-is_users : (doc : DocId) (has : HasFeed doc) → IsUserDocument doc.home
-is_users doc has = subst (λ (h : Home). IsUserDocument h) (sym has.users) tt
+is_users : (doc : DocId) (has : HasFeed doc) → IsUserHome doc.home
+is_users doc has = subst (λ (h : Home). IsUserHome h) (sym has.users) tt
 
-module _ (f f' : Following) (n : State) (is : IsRoot f.root (authority_of f.root) (path_of f.root)) (has : HasFeed f.doc) (below : TargetResult f.root (path_of f.root ++ (slash ∷ id_text f.doc)) (Ok (a_document f.doc)))
-    (feeds : (number : ℕ) → tag_spelled (decimal number) ≡ Some number → TargetResult f.root (feed_address f.root Aggregate (decimal number) f.doc) (Ok (Feed Aggregate number f.doc))) (earlier : List Traffic) (last : Traffic) (served : IsServedIn f.root n last) where
-  by_feed_call : (m : State) (v : Version) → IsValidState m → ComesTo f.root m n → HasVersion m f.doc v → v.tag ≤ u64_max → (old new : StreamState) (given : Result Response ClientFault) (round : Round)
-      → Calls f.root (get_ask f.user (feed_path (decimal v.tag) f.doc)) old new given → peer_traffic new ≡ earlier ++ last ∷ [] → TakesFeed f.doc given (subscribed v) f'.held (Ok (Some round)) → IsPresentIn n f.doc f'.held
+module _ (f f' : FollowerState) (n : State) (is : IsRoot f.root (authority_of f.root) (path_of f.root)) (has : HasFeed f.doc) (below : IsTargetResult f.root (path_of f.root ++ (slash ∷ id_text f.doc)) (Ok (a_document f.doc)))
+    (feeds : (number : ℕ) → parse_tag (decimal number) ≡ Some number → IsTargetResult f.root (feed_address f.root Aggregate (decimal number) f.doc) (Ok (Feed Aggregate number f.doc))) (earlier : List Traffic) (last : Traffic) (served : IsServedInState f.root n last) where
+  by_feed_call : (m : State) (v : Version) → IsValidState m → ReachesByValidSteps f.root m n → HasVersion m f.doc v → v.tag ≤ u64_max → (old new : StreamState) (given : Result Response ClientFault) (round : Round)
+      → MakesCall f.root (get_ask f.user (feed_path (decimal v.tag) f.doc)) old new given → peer_traffic new ≡ earlier ++ last ∷ [] → TakesFeed f.doc given (replica_of_version v) f'.held (Ok (Some round)) → IsCurrentReplica n f.doc f'.held
   by_feed_call m v kept way there small old new given round call ends takes =
       let ask = get_ask f.user (feed_path (decimal v.tag) f.doc) in
       let c = called f.root n ask reads old new given earlier last call ends served (λ e. no_fault clients.NoMemory e) (λ e. no_fault clients.PeerFault e) (λ fault e. no_fault (clients.BadResponse fault) e) in
-      feed_leads f.root is n f.doc (meant f.root ask) c.reply c.answers reads c.response c.received_as m v kept way there
+      feed_leads f.root is n f.doc (request_of_ask f.root ask) c.reply c.answers reads c.response c.received_as m v kept way there
       (feed_asked f.root is v.tag f.doc (has_tag m f.doc v kept there) small f.user (feeds v.tag)) given c.judged f'.held round takes
     where
       no_fault : (fault : ClientFault) → given ≡ Err fault → ⊥
-      no_fault fault e = no_outcome (is_refused_with 410 fault) (of_client fault) round (subst (λ (g : Result Response ClientFault). TakesFeed f.doc g (subscribed v) f'.held (Ok (Some round))) e takes).1
+      no_fault fault e = no_outcome (is_refused_with 410 fault) (fault_of_client fault) round (subst (λ (g : Result Response ClientFault). TakesFeed f.doc g (replica_of_version v) f'.held (Ok (Some round))) e takes).1
 
-  fed : (old new : StreamState) (round : Round) → HoldsVersion f.root n f.doc f.held → AsksFeed f f' old new (Ok (Some round)) → peer_traffic new ≡ earlier ++ last ∷ [] → IsPresentIn n f.doc f'.held
+  fed : (old new : StreamState) (round : Round) → HoldsVersion f.root n f.doc f.held → AsksFeed f f' old new (Ok (Some round)) → peer_traffic new ≡ earlier ++ last ∷ [] → IsCurrentReplica n f.doc f'.held
   fed old new round holds (holds_nothing none same stays e) ends = let never : ⊥ = cc in absurd never
   fed old new round (inl none) (asks tag tree given held call takes stays) ends = let never : ◌≡◌ {A = ReplicaContents} None (Some (tag, tree)) = sym none ∙ held in let none_so : ⊥ = cc in absurd none_so
   fed old new round (inr (m, v, kept, way, there, small, is_held)) (asks tag tree given held call takes stays) ends =
       let same : ◌≡◌ {A = ReplicaContents} (Some (tag, tree)) (Some (decimal v.tag, v.tree)) = sym held ∙ is_held in
       let tag_is : tag ≡ decimal v.tag = ap tag_in same in
-      by_feed_call m v kept way there small old new given round (subst (λ (t : List ℕ). Calls f.root (get_ask f.user (feed_path t f.doc)) old new given) tag_is call) ends
+      by_feed_call m v kept way there small old new given round (subst (λ (t : List ℕ). MakesCall f.root (get_ask f.user (feed_path t f.doc)) old new given) tag_is call) ends
       (subst (λ (h : ReplicaContents). TakesFeed f.doc given h f'.held (Ok (Some round))) is_held takes)
 
-  by_document_call : (old new : StreamState) (given : Result Response ClientFault) (fetched : Option ReplicaVersion) → Calls f.root (get_ask f.user (id_text f.doc)) old new given → peer_traffic new ≡ earlier ++ last ∷ []
-      → TakesDocument given (Ok fetched) → IsPresentIn n f.doc (stored_in fetched)
+  by_document_call : (old new : StreamState) (given : Result Response ClientFault) (fetched : Option ReplicaVersion) → MakesCall f.root (get_ask f.user (id_text f.doc)) old new given → peer_traffic new ≡ earlier ++ last ∷ []
+      → TakesDocument given (Ok fetched) → IsCurrentReplica n f.doc (replica_view fetched)
   by_document_call old new given fetched call ends takes =
       let ask = get_ask f.user (id_text f.doc) in
       let c = called f.root n ask reads old new given earlier last call ends served (λ e. no_fault clients.NoMemory refl e) (λ e. no_fault clients.PeerFault refl e) (λ fault e. no_fault (clients.BadResponse fault) refl e) in
-      document_leads f.root n f.doc (meant f.root ask) c.reply c.answers reads c.response c.received_as (document_asked f.root is f.user f.doc below) (is_users f.doc has) given c.judged fetched takes
+      document_leads f.root n f.doc (request_of_ask f.root ask) c.reply c.answers reads c.response c.received_as (document_asked f.root is f.user f.doc below) (is_users f.doc has) given c.judged fetched takes
     where
       no_fault : (fault : ClientFault) → is_refused_with 404 fault ≡ false → given ≡ Err fault → ⊥
       no_fault fault differs e =
-          let gone = emptied (is_refused_with 404 fault) (of_client fault) fetched (subst (λ (g : Result Response ClientFault). TakesDocument g (Ok fetched)) e takes) in
+          let gone = emptied (is_refused_with 404 fault) (fault_of_client fault) fetched (subst (λ (g : Result Response ClientFault). TakesDocument g (Ok fetched)) e takes) in
           let never : true ≡ false = sym gone.0 ∙ differs in
           cc
 
-  fetched_so : (fetched : Result (Option ReplicaVersion) FollowerFault) (round : Round) → HoldsFetched f f' fetched (Ok round) → ((held : Option ReplicaVersion) → fetched ≡ Ok held → IsPresentIn n f.doc (stored_in held)) → IsPresentIn n f.doc f'.held
-  fetched_so (Ok (Some held)) round (is_now, e) present = ap (λ (x : Following). x.held) is_now ∙ present (Some held) refl
-  fetched_so (Ok None) round (is_now, e) present = ap (λ (x : Following). x.held) is_now ∙ present None refl
+  fetched_so : (fetched : Result (Option ReplicaVersion) FollowerFault) (round : Round) → HoldsFetchedVersion f f' fetched (Ok round) → ((held : Option ReplicaVersion) → fetched ≡ Ok held → IsCurrentReplica n f.doc (replica_view held)) → IsCurrentReplica n f.doc f'.held
+  fetched_so (Ok (Some held)) round (is_now, e) present = ap (λ (x : FollowerState). x.held) is_now ∙ present (Some held) refl
+  fetched_so (Ok None) round (is_now, e) present = ap (λ (x : FollowerState). x.held) is_now ∙ present None refl
   fetched_so (Err fault) round (is_now, e) present = let never : ⊥ = cc in absurd never
 
-  rounds : (old new : StreamState) (round : Round) → HoldsVersion f.root n f.doc f.held → Rounds f f' old new (Ok round) → peer_traffic new ≡ earlier ++ last ∷ [] → IsPresentIn n f.doc f'.held
+  rounds : (old new : StreamState) (round : Round) → HoldsVersion f.root n f.doc f.held → RunsRound f f' old new (Ok round) → peer_traffic new ≡ earlier ++ last ∷ [] → IsCurrentReplica n f.doc f'.held
   rounds old new round holds (by_feed other feed e) ends = fed old new other holds feed ends
   rounds old new round holds (by_document between feed fetch) ends =
       fetched_so fetch.fetched round fetch.holds
       (λ held e. by_document_call between new fetch.fetches.given held fetch.fetches.calls ends (subst (λ (r : Result (Option ReplicaVersion) FollowerFault). TakesDocument fetch.fetches.given r) e fetch.fetches.takes))
   rounds old new round holds (failed fault feed stays e) ends = let never : ⊥ = cc in absurd never
 
-pub converges : (root : List ℕ) (doc : DocId) → IsRoot root (authority_of root) (path_of root) → (IsAddressable doc → TargetResult root (path_of root ++ (slash ∷ id_text doc)) (Ok (a_document doc)))
-    → ((mode : Mode) (tag : List ℕ) (number : ℕ) → HasFeed doc → tag_spelled tag ≡ Some number → AsksForFeed root mode number doc (feed_request root mode tag doc))
-    → (n : State) (f f' : Following) (old new : StreamState) (round : Round) (earlier : List Traffic) (last : Traffic) → f.root ≡ root → f.doc ≡ doc → HasFeed doc → HoldsVersion f.root n f.doc f.held
-    → Rounds f f' old new (Ok round) → peer_traffic new ≡ earlier ++ last ∷ [] → IsServedIn f.root n last → IsPresentIn n f.doc f'.held
+pub converges : (root : List ℕ) (doc : DocId) → IsRoot root (authority_of root) (path_of root) → (IsAddressable doc → IsTargetResult root (path_of root ++ (slash ∷ id_text doc)) (Ok (a_document doc)))
+    → ((mode : Mode) (tag : List ℕ) (number : ℕ) → HasFeed doc → parse_tag tag ≡ Some number → AsksForFeed root mode number doc (feed_request root mode tag doc))
+    → (n : State) (f f' : FollowerState) (old new : StreamState) (round : Round) (earlier : List Traffic) (last : Traffic) → f.root ≡ root → f.doc ≡ doc → HasFeed doc → HoldsVersion f.root n f.doc f.held
+    → RunsRound f f' old new (Ok round) → peer_traffic new ≡ earlier ++ last ∷ [] → IsServedInState f.root n last → IsCurrentReplica n f.doc f'.held
 converges root doc is below asks_feed n f f' old new round earlier last same_root same_doc has holds made ends served =
     let has' : HasFeed f.doc = subst (λ (d : DocId). HasFeed d) (sym same_doc) has in
     let is' : IsRoot f.root (authority_of f.root) (path_of f.root) = subst (λ (r : List ℕ). IsRoot r (authority_of r) (path_of r)) (sym same_root) is in
-    let below' : TargetResult f.root (path_of f.root ++ (slash ∷ id_text f.doc)) (Ok (a_document f.doc)) =
-    subst (λ (r : List ℕ). TargetResult r (path_of r ++ (slash ∷ id_text f.doc)) (Ok (a_document f.doc))) (sym same_root) (subst (λ (d : DocId). TargetResult root (path_of root ++ (slash ∷ id_text d)) (Ok (a_document d))) (sym same_doc) (below has.readable)) in
+    let below' : IsTargetResult f.root (path_of f.root ++ (slash ∷ id_text f.doc)) (Ok (a_document f.doc)) =
+    subst (λ (r : List ℕ). IsTargetResult r (path_of r ++ (slash ∷ id_text f.doc)) (Ok (a_document f.doc))) (sym same_root) (subst (λ (d : DocId). IsTargetResult root (path_of root ++ (slash ∷ id_text d)) (Ok (a_document d))) (sym same_doc) (below has.readable)) in
     rounds f f' n is' has' below'
     (λ number spelled.
-    subst (λ (r : List ℕ). TargetResult r (feed_address r Aggregate (decimal number) f.doc) (Ok (Feed Aggregate number f.doc))) (sym same_root)
-    (subst (λ (d : DocId). TargetResult root (feed_address root Aggregate (decimal number) d) (Ok (Feed Aggregate number d))) (sym same_doc) (asks_feed Aggregate (decimal number) number has spelled).target))
+    subst (λ (r : List ℕ). IsTargetResult r (feed_address r Aggregate (decimal number) f.doc) (Ok (Feed Aggregate number f.doc))) (sym same_root)
+    (subst (λ (d : DocId). IsTargetResult root (feed_address root Aggregate (decimal number) d) (Ok (Feed Aggregate number d))) (sym same_doc) (asks_feed Aggregate (decimal number) number has spelled).target))
     earlier last served old new round holds made ends

@@ -9,9 +9,9 @@ use Rattle.std.specs.declared.cmp.Ordering.{Ordering}
 use Rattle.std.specs.declared.cmp.Ordering.TheVariants.{Less, Equal, Greater}
 use Rattle.xml_tree.specs.Tree.{Tree, child_elements_of}
 use Rattle.xml_tree.specs.TreeScopes.{inside}
-use Rattle.usage_docs.specs.Keys.{value_of}
+use Rattle.usage_docs.specs.KeyAttributes.{value_of}
 use Rattle.usage_docs.specs.SchemaTable.{Scope, kind_of}
-use Rattle.usage_docs.specs.Services.{is_service, listed_as, service_elements, service_uri, service_uris}
+use Rattle.usage_docs.specs.Services.{is_service, listed_service, service_elements, service_uri, service_uris}
 use Rattle.usage_docs.specs.declared.schema_table.ElementKind.{ElementKind}
 use Rattle.usage_docs.specs.declared.schema_table.ElementKind.TheVariants as kinds
 use Rattle.usage_docs.specs.declared.schema_table.Key.TheVariants.{Uri}
@@ -20,16 +20,16 @@ use Rattle.doc_names.specs.declared.doc_id.Auid.{Auid}
 use Rattle.doc_names.specs.declared.doc_id.Auid.TheVariants.{ResourceLists, RlsServices, XcapCaps}
 use Rattle.doc_names.specs.declared.doc_id.Home.{Home}
 use Rattle.doc_names.specs.declared.doc_id.Home.TheVariants.{Global, User}
-use Rattle.store_core.specs.Contents.{StoredDocument, stock_of, stored_of}
-use Rattle.store_core.specs.Indexes.{index, index_entry, indexed_by}
+use Rattle.store_core.specs.Contents.{StoredDocument, contents_of, stored_document}
+use Rattle.store_core.specs.Indexes.{index, index_entry, entry_if_listed}
 use Rattle.store_core.specs.State.{Document, State}
-use Rattle.store_core.specs.ValidStates.{AreDistinct, IsValidState, addresses, addresses_in}
+use Rattle.store_core.specs.ValidStates.{AreDistinct, IsValidState, all_addresses, document_addresses}
 use Rattle.store_core.proofs.DistinctItems.{apart-cut, apart-middle, each-append, each-left, each-right, each-weaker}
 use Rattle.store_core.proofs.ByUser.{index_trees, one-index-trees, some-index-trees}
 use Rattle.store_core.proofs.InOrder.{Pair, cmp, each-in-order, in_order, placed, put}
 use Rattle.store_core.proofs.Services.{apart-mix}
 use Rattle.xcap_machine.specs.Resources.{IsIndexOfServices}
-use Rattle.xcap_laws.specs.ServiceIndexes.{IsConsistent, IsServiceOf, listed_addresses}
+use Rattle.xcap_laws.specs.ServiceIndexes.{IsConsistentIndex, IsListedService, listed_addresses}
 
 -- ---- each of the items
 
@@ -66,14 +66,14 @@ module _ (P : Pair → Type 0) where
 
 -- ---- the documents that are listed
 
-listed_tree : (auid : Auid) (home : Home) (b : Bool) (t : Tree) (x : Pair) → indexed_by auid b home t ≡ Some x → (x.1 ≡ t) × (addresses_in auid t ≡ service_uris t)
+listed_tree : (auid : Auid) (home : Home) (b : Bool) (t : Tree) (x : Pair) → entry_if_listed auid b home t ≡ Some x → (x.1 ≡ t) × (document_addresses auid t ≡ service_uris t)
 listed_tree ResourceLists home b t x h = cc
 listed_tree RlsServices home false t x h = cc
 listed_tree RlsServices Global true t x h = cc
 listed_tree RlsServices (User xui) true t x h = (sym (ap (λ (p : Pair). p.1) (same_Some {A = Pair} (xui, t) x h)), refl)
 listed_tree XcapCaps home b t x h = cc
 
-of_listed : (h : StoredDocument) (x : Pair) → index_entry h ≡ Some x → (x.1 ≡ h.tree) × (addresses_in h.id.auid h.tree ≡ service_uris h.tree)
+of_listed : (h : StoredDocument) (x : Pair) → index_entry h ≡ Some x → (x.1 ≡ h.tree) × (document_addresses h.id.auid h.tree ≡ service_uris h.tree)
 of_listed h x is = listed_tree h.id.auid h.id.home (bytes_eq h.id.name index) h.tree x is
 
 module _ (P : Tree → Type 0) where
@@ -156,45 +156,45 @@ distinct-order (d ∷ ds) a =
     (across [] (uris d) (flat_map uris ds) a)))
 
 abbrev listed : List Document → List Pair
-listed ds = filter_map index_entry (map stored_of ds)
+listed ds = filter_map index_entry (map stored_document ds)
 
 -- the addresses that are listed are among those of all documents
-among : (P : List ℕ → Type 0) (ds : List Document) → AllByRecursion P (addresses ds) → AllByRecursion P (flat_map uris (listed ds))
+among : (P : List ℕ → Type 0) (ds : List Document) → AllByRecursion P (all_addresses ds) → AllByRecursion P (flat_map uris (listed ds))
 among P [] a = tt
-among P (d ∷ ds) a = by (index_entry (stored_of d)) refl (among P ds (each-right P (addresses_in d.id.auid d.now.tree) (addresses ds) a))
+among P (d ∷ ds) a = by (index_entry (stored_document d)) refl (among P ds (each-right P (document_addresses d.id.auid d.now.tree) (all_addresses ds) a))
   where
-    by : (o : Option Pair) → index_entry (stored_of d) ≡ o → AllByRecursion P (flat_map uris (listed ds)) → AllByRecursion P (flat_map uris (cons_option o (listed ds)))
+    by : (o : Option Pair) → index_entry (stored_document d) ≡ o → AllByRecursion P (flat_map uris (listed ds)) → AllByRecursion P (flat_map uris (cons_option o (listed ds)))
     by None is rest = rest
     by (Some x) is rest =
-        let of = of_listed (stored_of d) x is in
-        let same : addresses_in d.id.auid d.now.tree ≡ uris x = of.1 ∙ ap service_uris (sym of.0) in
-        each-append P (uris x) (flat_map uris (listed ds)) (subst (λ (us : Uris). AllByRecursion P us) same (each-left P (addresses_in d.id.auid d.now.tree) (addresses ds) a)) rest
+        let of = of_listed (stored_document d) x is in
+        let same : document_addresses d.id.auid d.now.tree ≡ uris x = of.1 ∙ ap service_uris (sym of.0) in
+        each-append P (uris x) (flat_map uris (listed ds)) (subst (λ (us : Uris). AllByRecursion P us) same (each-left P (document_addresses d.id.auid d.now.tree) (all_addresses ds) a)) rest
 
-distinct-listed : (ds : List Document) → AreDistinct (addresses ds) → AreDistinct (flat_map uris (listed ds))
+distinct-listed : (ds : List Document) → AreDistinct (all_addresses ds) → AreDistinct (flat_map uris (listed ds))
 distinct-listed [] a = tt
-distinct-listed (d ∷ ds) a = by (index_entry (stored_of d)) refl (distinct-listed ds (apart-cut [] (addresses_in d.id.auid d.now.tree) (addresses ds) a))
+distinct-listed (d ∷ ds) a = by (index_entry (stored_document d)) refl (distinct-listed ds (apart-cut [] (document_addresses d.id.auid d.now.tree) (all_addresses ds) a))
   where
-    by : (o : Option Pair) → index_entry (stored_of d) ≡ o → AreDistinct (flat_map uris (listed ds)) → AreDistinct (flat_map uris (cons_option o (listed ds)))
+    by : (o : Option Pair) → index_entry (stored_document d) ≡ o → AreDistinct (flat_map uris (listed ds)) → AreDistinct (flat_map uris (cons_option o (listed ds)))
     by None is rest = rest
     by (Some x) is rest =
-        let of = of_listed (stored_of d) x is in
-        let same : addresses_in d.id.auid d.now.tree ≡ uris x = of.1 ∙ ap service_uris (sym of.0) in
-        let b : AreDistinct (uris x ++ addresses ds) = subst (λ (us : Uris). AreDistinct (us ++ addresses ds)) same a in
-        apart-mix [] (uris x) (flat_map uris (listed ds)) rest (apart-middle [] (uris x) (addresses ds) b)
-        (each-weaker (λ y. AllByRecursion (λ o. y ≢ o) (addresses ds)) (λ y. AllByRecursion (λ o. y ≢ o) (flat_map uris (listed ds))) (λ y others. among (λ o. y ≢ o) ds others) (uris x) (across [] (uris x) (addresses ds) b))
+        let of = of_listed (stored_document d) x is in
+        let same : document_addresses d.id.auid d.now.tree ≡ uris x = of.1 ∙ ap service_uris (sym of.0) in
+        let b : AreDistinct (uris x ++ all_addresses ds) = subst (λ (us : Uris). AreDistinct (us ++ all_addresses ds)) same a in
+        apart-mix [] (uris x) (flat_map uris (listed ds)) rest (apart-middle [] (uris x) (all_addresses ds) b)
+        (each-weaker (λ y. AllByRecursion (λ o. y ≢ o) (all_addresses ds)) (λ y. AllByRecursion (λ o. y ≢ o) (flat_map uris (listed ds))) (λ y others. among (λ o. y ≢ o) ds others) (uris x) (across [] (uris x) (all_addresses ds) b))
 
 -- ---- the addresses in the index
 
 abbrev uri_of : Tree → Option (List ℕ)
 uri_of e = value_of Uri e.attrs
 
-own_uris : (c : Scope) (ks : List Tree) → filter_map uri_of (map (listed_as c) (filter (is_service c) ks)) ≡ filter_map (service_uri c) ks
+own_uris : (c : Scope) (ks : List Tree) → filter_map uri_of (map (listed_service c) (filter (is_service c) ks)) ≡ filter_map (service_uri c) ks
 unfolding service_uri
 own_uris c [] = refl
 own_uris c (k ∷ ks) = by (kind_of kinds.RlsServices (inside c k) k.name) refl (own_uris c ks)
   where
-    by : (o : Option ElementKind) → kind_of kinds.RlsServices (inside c k) k.name ≡ o → filter_map uri_of (map (listed_as c) (filter (is_service c) ks)) ≡ filter_map (service_uri c) ks
-        → filter_map uri_of (map (listed_as c) (filter (is_service c) (k ∷ ks))) ≡ filter_map (service_uri c) (k ∷ ks)
+    by : (o : Option ElementKind) → kind_of kinds.RlsServices (inside c k) k.name ≡ o → filter_map uri_of (map (listed_service c) (filter (is_service c) ks)) ≡ filter_map (service_uri c) ks
+        → filter_map uri_of (map (listed_service c) (filter (is_service c) (k ∷ ks))) ≡ filter_map (service_uri c) (k ∷ ks)
     by None is rest = rw is rest
     by (Some kind) is rest = rw is (ap (cons_option (uri_of k)) rest)
 
@@ -210,13 +210,13 @@ flat_trees f (x ∷ xs) = ap (λ ys. f x.1 ++ ys) (flat_trees f xs)
 
 -- ---- the index
 
-module _ (m : State) (kept : IsValidState m) (root : Tree) (is : IsIndexOfServices (stock_of m) root) where
+module _ (m : State) (kept : IsValidState m) (root : Tree) (is : IsIndexOfServices (contents_of m) root) where
   abbrev pairs : List Pair
   pairs = in_order (listed m.documents)
 
   services : child_elements_of root ≡ flat_map (λ (x : Pair). service_elements x.1) pairs
   services =
-      let same : is.0 ≡ index_trees (stock_of m) = one-index-trees (stock_of m) is.0 (index_trees (stock_of m)) is.1 (some-index-trees (stock_of m)) in
+      let same : is.0 ≡ index_trees (contents_of m) = one-index-trees (contents_of m) is.0 (index_trees (contents_of m)) is.1 (some-index-trees (contents_of m)) in
       ap child_elements_of is.2 ∙ kids_of_elems (flat_map service_elements is.0) ∙ ap (flat_map service_elements) same ∙ flat_trees service_elements pairs
 
   listed_once : AreDistinct (listed_addresses root)
@@ -225,28 +225,28 @@ module _ (m : State) (kept : IsValidState m) (root : Tree) (is : IsIndexOfServic
       ap (filter_map uri_of) (services ∙ sym (flat_trees service_elements pairs)) ∙ all_uris (map (λ (x : Pair). x.1) pairs) ∙ flat_trees service_uris pairs in
       subst (λ (us : Uris). AreDistinct us) (sym here) (distinct-order (listed m.documents) (distinct-listed m.documents kept.services))
 
-  only : (P : Tree → Type 0) → AllByRecursion (λ (h : StoredDocument). IsSome (index_entry h) → AllByRecursion P (service_elements h.tree)) (map stored_of m.documents) → AllByRecursion P (child_elements_of root)
+  only : (P : Tree → Type 0) → AllByRecursion (λ (h : StoredDocument). IsSome (index_entry h) → AllByRecursion P (service_elements h.tree)) (map stored_document m.documents) → AllByRecursion P (child_elements_of root)
   only P all =
       subst (λ (es : List Tree). AllByRecursion P es) (sym services)
-      (each-flat P (λ (x : Pair). service_elements x.1) pairs (each-in-order (λ (x : Pair). AllByRecursion P (service_elements x.1)) (listed m.documents) (listed-each (λ t. AllByRecursion P (service_elements t)) (map stored_of m.documents) all)))
+      (each-flat P (λ (x : Pair). service_elements x.1) pairs (each-in-order (λ (x : Pair). AllByRecursion P (service_elements x.1)) (listed m.documents) (listed-each (λ t. AllByRecursion P (service_elements t)) (map stored_document m.documents) all)))
 
-  every : (P : Tree → Type 0) → AllByRecursion P (child_elements_of root) → AllByRecursion (λ (h : StoredDocument). IsSome (index_entry h) → AllByRecursion P (service_elements h.tree)) (map stored_of m.documents)
+  every : (P : Tree → Type 0) → AllByRecursion P (child_elements_of root) → AllByRecursion (λ (h : StoredDocument). IsSome (index_entry h) → AllByRecursion P (service_elements h.tree)) (map stored_document m.documents)
   every P all =
-      each-listed (λ t. AllByRecursion P (service_elements t)) (map stored_of m.documents)
+      each-listed (λ t. AllByRecursion P (service_elements t)) (map stored_document m.documents)
       (in-order-each (λ (x : Pair). AllByRecursion P (service_elements x.1)) (listed m.documents)
       (flat-each P (λ (x : Pair). service_elements x.1) pairs (subst (λ (es : List Tree). AllByRecursion P es) services all)))
 
-  pub index_is_consistent : IsConsistent (stock_of m) root
+  pub index_is_consistent : IsConsistentIndex (contents_of m) root
   index_is_consistent =
       record {
         no_others =
-            only (IsServiceOf (stock_of m))
-            (each-weaker (λ (h : StoredDocument). Contains (stock_of m).documents h) (λ (h : StoredDocument). IsSome (index_entry h) → AllByRecursion (IsServiceOf (stock_of m)) (service_elements h.tree))
-            (λ h there some. each-weaker (λ s. Contains (service_elements h.tree) s) (IsServiceOf (stock_of m)) (λ s here. record { document = h; is_stored = there; is_listed = some; is_in = here }) (service_elements h.tree) (own (service_elements h.tree)))
-            (stock_of m).documents (own (stock_of m).documents));
+            only (IsListedService (contents_of m))
+            (each-weaker (λ (h : StoredDocument). Contains (contents_of m).documents h) (λ (h : StoredDocument). IsSome (index_entry h) → AllByRecursion (IsListedService (contents_of m)) (service_elements h.tree))
+            (λ h there some. each-weaker (λ s. Contains (service_elements h.tree) s) (IsListedService (contents_of m)) (λ s here. record { document = h; is_stored = there; is_listed = some; is_in = here }) (service_elements h.tree) (own (service_elements h.tree)))
+            (contents_of m).documents (own (contents_of m).documents));
         none_missing = λ service of.
             let all = every (λ s. Contains (child_elements_of root) s) (own (child_elements_of root)) in
             item_of (λ (s : Tree). Contains (child_elements_of root) s) (service_elements of.document.tree) service
-            (item_of (λ (h : StoredDocument). IsSome (index_entry h) → AllByRecursion (λ s. Contains (child_elements_of root) s) (service_elements h.tree)) (stock_of m).documents of.document all of.is_stored of.is_listed) of.is_in;
+            (item_of (λ (h : StoredDocument). IsSome (index_entry h) → AllByRecursion (λ s. Contains (child_elements_of root) s) (service_elements h.tree)) (contents_of m).documents of.document all of.is_stored of.is_listed) of.is_in;
         once = listed_once;
       }

@@ -7,16 +7,16 @@ use Rattle.std.proofs.lemmas.List.{append_cancel_left, take_at}
 use Rattle.httparse.specs.Grammar.{ResponseHead, print_response, status_code}
 use Rattle.httparse.specs.Spans.{name_and_value}
 use Rattle.httparse.proofs.GrammarLemmas.{response_unique}
-use Rattle.http_wire.specs.Fields.{values_of}
-use Rattle.reply_text.specs.ReplyHeads.{HeadFields, SentReply, bytes_of, head_of, sent}
+use Rattle.http_wire.specs.Fields.{field_values}
+use Rattle.reply_text.specs.ReplyHeads.{HeadFields, SentReply, reply_bytes, head_of, sent_reply}
 use Rattle.xcap_client.proofs.Fronts.{no_head_in_none}
 use Rattle.xcap_client.proofs.QuoteLemmas.{one_value}
-use Rattle.xcap_client.specs.Heads.{BeginsWithHead}
+use Rattle.xcap_client.specs.ResponseHeads.{BeginsWithHead}
 use Rattle.xcap_laws.proofs.ReplyFields.{close_values, closings, length_values, lengths, parsed}
 use Rattle.xcap_laws.proofs.ReplyKinds.{IsFramedReply, framed_reply}
 use Rattle.xcap_laws.proofs.ReplyLines.{Line, lines_of, printed, tree_of}
 use Rattle.xcap_laws.proofs.ReplyReadings.{IsFramedBy, begins, code_is}
-use Rattle.xcap_laws.specs.ReadReplies.{IsCounted, joined}
+use Rattle.xcap_laws.specs.ReadReplies.{IsCountableReply, joined_bytes}
 
 same_closing : (b c : Bool) → closings b ≡ closings c → b ≡ c
 same_closing true true is = refl
@@ -40,11 +40,11 @@ module _ (f g : HeadFields) (body other : List ℕ) (framed : IsFramedBy f body)
   same_head = sym (printed f) ∙ ap print_response same ∙ printed g
 
   same_closes : f.closes ≡ g.closes
-  same_closes = same_closing f.closes g.closes (sym (close_values f) ∙ ap (values_of (codes "connection")) same_lines ∙ close_values g)
+  same_closes = same_closing f.closes g.closes (sym (close_values f) ∙ ap (field_values (codes "connection")) same_lines ∙ close_values g)
 
   same_lengths : lengths (f.status == 304) f.size ≡ lengths (f.status == 304) g.size
   same_lengths =
-      sym (length_values f) ∙ ap (values_of (codes "content-length")) same_lines ∙ length_values g
+      sym (length_values f) ∙ ap (field_values (codes "content-length")) same_lines ∙ length_values g
       ∙ ap (λ (n : ℕ). lengths (n == 304) g.size) (sym same_status)
 
   same_bodies_len : length body < 2 ^ 64 → length other < 2 ^ 64 → length body ≡ length other
@@ -69,13 +69,13 @@ record IsAtFront (reply : SentReply) (rest bytes : List ℕ) : Type 0 where
   countable : length framed.body < 2 ^ 64
   is : bytes ≡ head_of framed.fields ++ (framed.body ++ rest)
 
-at_front : (reply : SentReply) (rest : List ℕ) → IsCounted reply → IsAtFront reply rest (bytes_of reply ++ rest)
+at_front : (reply : SentReply) (rest : List ℕ) → IsCountableReply reply → IsAtFront reply rest (reply_bytes reply ++ rest)
 at_front reply rest counted =
     let r = framed_reply reply counted.whole in
     record {
       framed = r;
       countable = subst (λ (x : SentReply). length x.body < 18446744073709551616) r.is_sent counted.countable;
-      is = ap (λ (x : SentReply). bytes_of x ++ rest) r.is_sent ∙ append_assoc (head_of r.fields) r.body rest;
+      is = ap (λ (x : SentReply). reply_bytes x ++ rest) r.is_sent ∙ append_assoc (head_of r.fields) r.body rest;
     }
 
 -- two replies at the front of the same bytes are one, and what follows them is the same
@@ -120,20 +120,20 @@ module _ (x y : SentReply) (us vs bytes : List ℕ) (one : IsAtFront x us bytes)
   same_later = same_rest body other us vs same_body unique.1
 
 -- no bytes are no reply
-never_empty : (reply : SentReply) (rest : List ℕ) → IsCounted reply → bytes_of reply ++ rest ≡ [] → ⊥
+never_empty : (reply : SentReply) (rest : List ℕ) → IsCountableReply reply → reply_bytes reply ++ rest ≡ [] → ⊥
 never_empty reply rest counted none =
     let front = at_front reply rest counted in
     let f : HeadFields = front.framed.fields in
     let starts = begins f (front.framed.body ++ rest) front.framed.framed.lawful in
     no_head_in_none (tree_of f) (front.framed.body ++ rest) (subst (λ (l : List ℕ). BeginsWithHead l (tree_of f) (front.framed.body ++ rest)) (sym front.is ∙ none) starts)
 
-pub same_replies : (replies others : List SentReply) → AllByRecursion IsCounted replies → AllByRecursion IsCounted others → joined replies ≡ joined others → replies ≡ others
+pub same_replies : (replies others : List SentReply) → AllByRecursion IsCountableReply replies → AllByRecursion IsCountableReply others → joined_bytes replies ≡ joined_bytes others → replies ≡ others
 same_replies [] [] one two same = refl
-same_replies [] (y ∷ ys) one two same = absurd (never_empty y (joined ys) two.0 (sym same))
-same_replies (x ∷ xs) [] one two same = absurd (never_empty x (joined xs) one.0 same)
+same_replies [] (y ∷ ys) one two same = absurd (never_empty y (joined_bytes ys) two.0 (sym same))
+same_replies (x ∷ xs) [] one two same = absurd (never_empty x (joined_bytes xs) one.0 same)
 same_replies (x ∷ xs) (y ∷ ys) one two same =
-    let bytes : List ℕ = bytes_of y ++ joined ys in
-    let first : IsAtFront x (joined xs) bytes = subst (λ (l : List ℕ). IsAtFront x (joined xs) l) same (at_front x (joined xs) one.0) in
-    let second = at_front y (joined ys) two.0 in
-    let later = same_replies xs ys one.1 two.1 (same_later x y (joined xs) (joined ys) bytes first second) in
-    ap (λ (r : SentReply). r ∷ xs) (same_reply x y (joined xs) (joined ys) bytes first second) ∙ ap (λ (l : List SentReply). y ∷ l) later
+    let bytes : List ℕ = reply_bytes y ++ joined_bytes ys in
+    let first : IsAtFront x (joined_bytes xs) bytes = subst (λ (l : List ℕ). IsAtFront x (joined_bytes xs) l) same (at_front x (joined_bytes xs) one.0) in
+    let second = at_front y (joined_bytes ys) two.0 in
+    let later = same_replies xs ys one.1 two.1 (same_later x y (joined_bytes xs) (joined_bytes ys) bytes first second) in
+    ap (λ (r : SentReply). r ∷ xs) (same_reply x y (joined_bytes xs) (joined_bytes ys) bytes first second) ∙ ap (λ (l : List SentReply). y ∷ l) later

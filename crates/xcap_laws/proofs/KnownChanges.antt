@@ -7,20 +7,20 @@ use Rattle.std.proofs.lemmas.Bool.Decides.{nat_tests}
 use Rattle.std.proofs.lemmas.List.{reverse-append}
 use Rattle.std.proofs.lemmas.List.Sums.{sum_by-append}
 use Rattle.std.specs.List.{AllByRecursion}
-use Rattle.doc_names.specs.Equality.{same_id}
+use Rattle.doc_names.specs.NameEquality.{same_id}
 use Rattle.doc_names.specs.declared.doc_id.DocId.{DocId}
 use Rattle.edit_ops.specs.Notes.{Note}
-use Rattle.edit_ops.specs.Operations.{weight}
+use Rattle.edit_ops.specs.DiffOperations.{weight}
 use Rattle.element_watch.specs.SelectionHistory.{notes_after}
-use Rattle.store_core.specs.Contents.{Represents, StoreContents, stored_of}
-use Rattle.store_core.specs.DocumentChanges.{document_in, document_name, stored_name}
+use Rattle.store_core.specs.Contents.{Represents, StoreContents, stored_document}
+use Rattle.store_core.specs.DocumentChanges.{find_document, document_id, stored_id}
 use Rattle.store_core.specs.Since.{ReportedChanges, Unknown, notes_from, since}
-use Rattle.store_core.specs.inner.ChangesSince.{held_since, changes_since_of}
-use Rattle.store_core.specs.State.{Document, State, Version, is_small, notes, retained, small_end, versions}
-use Rattle.store_core.specs.ValidStates.{FollowFrom, IsKept, IsValidState}
+use Rattle.store_core.specs.inner.ChangesSince.{stored_changes_since, changes_since_of}
+use Rattle.store_core.specs.State.{Document, State, Version, is_within_retention, notes, retained_notes, longest_retained_end, versions}
+use Rattle.store_core.specs.ValidStates.{AreSuccessiveVersions, IsValidDocument, IsValidState}
 use Rattle.store_core.proofs.Chains.{notes_of}
 use Rattle.xcap_machine.proofs.OneVersion.{found_all, held_there}
-use Rattle.xcap_laws.specs.RetainedVersions.{changes_from, is_retainable}
+use Rattle.xcap_laws.specs.RetainedVersions.{changes_after_version, is_retainable}
 
 -- ---- records from a tag on
 
@@ -51,21 +51,21 @@ module _ (w : Note → ℕ) where
   lighter : (n m s t : ℕ) → n ≤ m → s ≤ t → (nat_le m 64 && nat_le t 65536) ≡ true → (nat_le n 64 && nat_le s 65536) ≡ true
   lighter n m s t few light e = grind (arith, nat_tests)
 
-  small_back : (front ns : List Note) → is_small w (front ++ ns) ≡ true → is_small w ns ≡ true
+  small_back : (front ns : List Note) → is_within_retention w (front ++ ns) ≡ true → is_within_retention w ns ≡ true
   small_back front ns e =
       lighter (length ns) (length (front ++ ns)) (sum_by w ns) (sum_by w (front ++ ns)) (omega (arith, length-append front ns)) (omega (arith, sum_by-append w front ns)) e
 
-  pub retainable_back : (front : List Note) (n : Note) (ms : List Note) → is_small w (front ++ n ∷ ms) ≡ true → is_retainable w (n ∷ ms) ≡ true
+  pub retainable_back : (front : List Note) (n : Note) (ms : List Note) → is_within_retention w (front ++ n ∷ ms) ≡ true → is_retainable w (n ∷ ms) ≡ true
   retainable_back front n [] e = refl
   retainable_back front n (m ∷ ms) e = small_back front (n ∷ m ∷ ms) e
 
   -- an end of an end
-  above_end : (tag : ℕ) (ns : List Note) → AllByRecursion (λ m. tag < m.previous) ns → AllByRecursion (λ m. tag < m.previous) (small_end w ns)
+  above_end : (tag : ℕ) (ns : List Note) → AllByRecursion (λ m. tag < m.previous) ns → AllByRecursion (λ m. tag < m.previous) (longest_retained_end w ns)
   above_end tag [] all = tt
   above_end tag (x ∷ []) all = all
-  above_end tag (x ∷ y ∷ xs) all = by (is_small w (x ∷ y ∷ xs)) (above_end tag (y ∷ xs) all.1)
+  above_end tag (x ∷ y ∷ xs) all = by (is_within_retention w (x ∷ y ∷ xs)) (above_end tag (y ∷ xs) all.1)
     where
-      by : (b : Bool) → AllByRecursion (λ m. tag < m.previous) (small_end w (y ∷ xs)) → AllByRecursion (λ m. tag < m.previous) (cond b (x ∷ y ∷ xs) (small_end w (y ∷ xs)))
+      by : (b : Bool) → AllByRecursion (λ m. tag < m.previous) (longest_retained_end w (y ∷ xs)) → AllByRecursion (λ m. tag < m.previous) (cond b (x ∷ y ∷ xs) (longest_retained_end w (y ∷ xs)))
       by true h = all
       by false h = h
 
@@ -73,30 +73,30 @@ module _ (w : Note → ℕ) where
   whole_or_none ns = cond (is_retainable w ns) (Some ns) None
 
   module _ (tag : ℕ) (n : Note) (ms : List Note) (goes_on : n.previous ≡ tag) (above : AllByRecursion (λ m. tag < m.previous) ms) where
-    alone : notes_from tag (small_end w (n ∷ ms)) ≡ whole_or_none (n ∷ ms)
+    alone : notes_from tag (longest_retained_end w (n ∷ ms)) ≡ whole_or_none (n ∷ ms)
     alone = by ms goes_on above
       where
         two : (y : Note) (ys : List Note) (b : Bool) → n.previous ≡ tag → AllByRecursion (λ m. tag < m.previous) (y ∷ ys)
-            → notes_from tag (cond b (n ∷ y ∷ ys) (small_end w (y ∷ ys))) ≡ cond b (Some (n ∷ y ∷ ys)) None
+            → notes_from tag (cond b (n ∷ y ∷ ys) (longest_retained_end w (y ∷ ys))) ≡ cond b (Some (n ∷ y ∷ ys)) None
         two y ys true same all = from_here tag n (y ∷ ys) same
-        two y ys false same all = none_from tag (small_end w (y ∷ ys)) (above_end tag (y ∷ ys) all)
+        two y ys false same all = none_from tag (longest_retained_end w (y ∷ ys)) (above_end tag (y ∷ ys) all)
 
-        by : (l : List Note) → n.previous ≡ tag → AllByRecursion (λ m. tag < m.previous) l → notes_from tag (small_end w (n ∷ l)) ≡ whole_or_none (n ∷ l)
+        by : (l : List Note) → n.previous ≡ tag → AllByRecursion (λ m. tag < m.previous) l → notes_from tag (longest_retained_end w (n ∷ l)) ≡ whole_or_none (n ∷ l)
         by [] same all = from_here tag n [] same
-        by (y ∷ ys) same all = two y ys (is_small w (n ∷ y ∷ ys)) same all
+        by (y ∷ ys) same all = two y ys (is_within_retention w (n ∷ y ∷ ys)) same all
 
     -- what is retained has these records where they may all be retained
-    from_retained : (front : List Note) → AllByRecursion (λ m. m.previous < tag) front → notes_from tag (small_end w (front ++ n ∷ ms)) ≡ whole_or_none (n ∷ ms)
+    from_retained : (front : List Note) → AllByRecursion (λ m. m.previous < tag) front → notes_from tag (longest_retained_end w (front ++ n ∷ ms)) ≡ whole_or_none (n ∷ ms)
     from_retained [] below = alone
-    from_retained (x ∷ []) below = by (is_small w (x ∷ n ∷ ms)) refl
+    from_retained (x ∷ []) below = by (is_within_retention w (x ∷ n ∷ ms)) refl
       where
-        by : (b : Bool) → is_small w (x ∷ n ∷ ms) ≡ b → notes_from tag (cond b (x ∷ n ∷ ms) (small_end w (n ∷ ms))) ≡ whole_or_none (n ∷ ms)
+        by : (b : Bool) → is_within_retention w (x ∷ n ∷ ms) ≡ b → notes_from tag (cond b (x ∷ n ∷ ms) (longest_retained_end w (n ∷ ms))) ≡ whole_or_none (n ∷ ms)
         by true e = from_later tag (x ∷ []) (n ∷ ms) below ∙ from_here tag n ms goes_on ∙ sym (ap (λ (b : Bool). cond b (Some (n ∷ ms)) None) (retainable_back (x ∷ []) n ms e))
         by false e = alone
-    from_retained (x ∷ y ∷ front) below = by (is_small w (x ∷ y ∷ (front ++ n ∷ ms))) refl (from_retained (y ∷ front) below.1)
+    from_retained (x ∷ y ∷ front) below = by (is_within_retention w (x ∷ y ∷ (front ++ n ∷ ms))) refl (from_retained (y ∷ front) below.1)
       where
-        by : (b : Bool) → is_small w (x ∷ y ∷ (front ++ n ∷ ms)) ≡ b → notes_from tag (small_end w (y ∷ (front ++ n ∷ ms))) ≡ whole_or_none (n ∷ ms)
-            → notes_from tag (cond b (x ∷ y ∷ (front ++ n ∷ ms)) (small_end w (y ∷ (front ++ n ∷ ms)))) ≡ whole_or_none (n ∷ ms)
+        by : (b : Bool) → is_within_retention w (x ∷ y ∷ (front ++ n ∷ ms)) ≡ b → notes_from tag (longest_retained_end w (y ∷ (front ++ n ∷ ms))) ≡ whole_or_none (n ∷ ms)
+            → notes_from tag (cond b (x ∷ y ∷ (front ++ n ∷ ms)) (longest_retained_end w (y ∷ (front ++ n ∷ ms)))) ≡ whole_or_none (n ∷ ms)
         by true e h = from_later tag (x ∷ y ∷ front) (n ∷ ms) below ∙ from_here tag n ms goes_on ∙ sym (ap (λ (b : Bool). cond b (Some (n ∷ ms)) None) (retainable_back (x ∷ y ∷ front) n ms e))
         by false e h = h
 
@@ -125,7 +125,7 @@ one_more : (k : ℕ) (v : Version) (vs : List Version) (n : Note) → v.note ≡
 one_more k v vs n is = ap reverse (some_noted v (take k vs) n is) ∙ reverse-append (n ∷ []) (notes_of (take k vs))
 
 -- there are as many records as later versions
-pub counted : (k : ℕ) (v : Version) (ws : List Version) (x : Version) → FollowFrom v ws → slice_get (v ∷ ws) k ≡ Some x → length (notes_after k (v ∷ ws)) ≡ k
+pub counted : (k : ℕ) (v : Version) (ws : List Version) (x : Version) → AreSuccessiveVersions v ws → slice_get (v ∷ ws) k ≡ Some x → length (notes_after k (v ∷ ws)) ≡ k
 counted zero v ws x follows is = refl
 counted (suc k) v [] x follows is = cc
 counted (suc k) v (w ∷ ws) x follows is =
@@ -136,7 +136,7 @@ low_tags : (k n : ℕ) (ws : List Version) → k < n → AllByRecursion (λ w. w
 low_tags k n [] lt h = tt
 low_tags k n (w ∷ ws) lt h = (omega (arith, h.0, lt), low_tags k n ws lt h.1)
 
-falling : (v : Version) (ws : List Version) → FollowFrom v ws → AllByRecursion (λ w. w.tag < v.tag) ws
+falling : (v : Version) (ws : List Version) → AreSuccessiveVersions v ws → AllByRecursion (λ w. w.tag < v.tag) ws
 falling v [] h = tt
 falling v (w ∷ ws) h = (h.1, low_tags w.tag v.tag ws h.1 (falling w ws h.2))
 
@@ -146,7 +146,7 @@ tag_at n (w ∷ ws) zero x h is = let same : w ≡ x = cc in subst (λ (v : Vers
 tag_at n (w ∷ ws) (suc k) x h is = tag_at n ws k x h.1 is
 
 -- an earlier version has a smaller tag
-pub earlier_tag : (v : Version) (ws : List Version) (k : ℕ) (x : Version) → FollowFrom v ws → slice_get (v ∷ ws) (suc k) ≡ Some x → x.tag < v.tag
+pub earlier_tag : (v : Version) (ws : List Version) (k : ℕ) (x : Version) → AreSuccessiveVersions v ws → slice_get (v ∷ ws) (suc k) ≡ Some x → x.tag < v.tag
 earlier_tag v ws k x follows is = tag_at v.tag ws k x (falling v ws follows) is
 
 -- ---- the records since a version
@@ -162,7 +162,7 @@ append_all : (P : Note → Type 0) (ns : List Note) (n : Note) → AllByRecursio
 append_all P [] n all here = (here, tt)
 append_all P (m ∷ ns) n all here = (all.0, append_all P ns n all.1 here)
 
-begins : (k : ℕ) (v : Version) (ws : List Version) (x : Version) → FollowFrom v ws → slice_get (v ∷ ws) (suc k) ≡ Some x → Begins x.tag (notes_after (suc k) (v ∷ ws))
+begins : (k : ℕ) (v : Version) (ws : List Version) (x : Version) → AreSuccessiveVersions v ws → slice_get (v ∷ ws) (suc k) ≡ Some x → Begins x.tag (notes_after (suc k) (v ∷ ws))
 begins k v [] x follows is = absurd cc
 begins zero v (w ∷ ws) x follows is =
     let same : w ≡ x = cc in record {
@@ -192,21 +192,21 @@ low_notes : (k n : ℕ) (ns : List Note) → k < n → AllByRecursion (λ m. m.p
 low_notes k n [] lt all = tt
 low_notes k n (m ∷ ns) lt all = (omega (arith, all.0, lt), low_notes k n ns lt all.1)
 
-noted_below : (v : Version) (ws : List Version) → FollowFrom v ws → AllByRecursion (λ m. m.previous < v.tag) (notes_of (v ∷ ws))
+noted_below : (v : Version) (ws : List Version) → AreSuccessiveVersions v ws → AllByRecursion (λ m. m.previous < v.tag) (notes_of (v ∷ ws))
 noted_below v [] follows = subst (AllByRecursion (λ m. m.previous < v.tag)) (sym (none_noted v [] follows)) tt
 noted_below v (w ∷ ws) follows =
     let previous : follows.0.0.previous ≡ w.tag = ap (λ (n : Note). n.previous) follows.0.4 in
     subst (AllByRecursion (λ m. m.previous < v.tag)) (sym (some_noted v (w ∷ ws) follows.0.0 follows.0.1)) (omega (arith, previous, follows.1), low_notes w.tag v.tag (notes_of (w ∷ ws)) follows.1 (noted_below w ws follows.2))
 
-earlier_below : (k : ℕ) (v : Version) (ws : List Version) (x : Version) → FollowFrom v ws → slice_get (v ∷ ws) k ≡ Some x → AllByRecursion (λ m. m.previous < x.tag) (notes_of (drop k (v ∷ ws)))
+earlier_below : (k : ℕ) (v : Version) (ws : List Version) (x : Version) → AreSuccessiveVersions v ws → slice_get (v ∷ ws) k ≡ Some x → AllByRecursion (λ m. m.previous < x.tag) (notes_of (drop k (v ∷ ws)))
 earlier_below zero v ws x follows is = let same : v ≡ x = cc in subst (λ (y : Version). AllByRecursion (λ m. m.previous < y.tag) (notes_of (v ∷ ws))) same (noted_below v ws follows)
 earlier_below (suc k) v [] x follows is = absurd cc
 earlier_below (suc k) v (w ∷ ws) x follows is = earlier_below k w ws x follows.2 is
 
 -- ---- the changes since a version
 
-by_number : (next : ℕ) (d : Document) (number : ℕ) (v : Version) → IsKept next d → slice_get (versions d) number ≡ Some v → held_since v.tag (Some (stored_of d)) ≡ changes_from number d
-by_number next d zero v kept is = let same : d.now ≡ v = cc in ap (λ (b : Bool). cond b (ReportedChanges []) (changes_since_of (notes_from v.tag (retained (notes d))))) (eq-eqb d.now.tag v.tag (ap (λ (x : Version). x.tag) same))
+by_number : (next : ℕ) (d : Document) (number : ℕ) (v : Version) → IsValidDocument next d → slice_get (versions d) number ≡ Some v → stored_changes_since v.tag (Some (stored_document d)) ≡ changes_after_version number d
+by_number next d zero v kept is = let same : d.now ≡ v = cc in ap (λ (b : Bool). cond b (ReportedChanges []) (changes_since_of (notes_from v.tag (retained_notes (notes d))))) (eq-eqb d.now.tag v.tag (ap (λ (x : Version). x.tag) same))
 by_number next d (suc k) v kept is = by (d.now.tag == v.tag) refl
   where
     r : Begins v.tag (notes_after (suc k) (versions d))
@@ -215,9 +215,9 @@ by_number next d (suc k) v kept is = by (d.now.tag == v.tag) refl
     whole : notes d ≡ reverse (notes_of (drop (suc k) (versions d))) ++ r.first ∷ r.later
     whole = split_from (suc k) (versions d) ∙ ap (λ (l : List Note). reverse (notes_of (drop (suc k) (versions d))) ++ l) r.parts
 
-    known : notes_from v.tag (retained (notes d)) ≡ whole_or_none weight (notes_after (suc k) (versions d))
+    known : notes_from v.tag (retained_notes (notes d)) ≡ whole_or_none weight (notes_after (suc k) (versions d))
     known =
-        ap (λ (l : List Note). notes_from v.tag (small_end weight l)) whole
+        ap (λ (l : List Note). notes_from v.tag (longest_retained_end weight l)) whole
         ∙ from_retained weight v.tag r.first r.later r.goes_on r.above (reverse (notes_of (drop (suc k) (versions d))))
         (reversed_all (λ m. m.previous < v.tag) (notes_of (drop (suc k) (versions d))) (earlier_below (suc k) d.now d.earlier v kept.follows is))
         ∙ ap (whole_or_none weight) (sym r.parts)
@@ -226,14 +226,14 @@ by_number next d (suc k) v kept is = by (d.now.tag == v.tag) refl
     by_test true ns = refl
     by_test false ns = refl
 
-    by : (b : Bool) → d.now.tag == v.tag ≡ b → cond b (ReportedChanges []) (changes_since_of (notes_from v.tag (retained (notes d)))) ≡ changes_from (suc k) d
+    by : (b : Bool) → d.now.tag == v.tag ≡ b → cond b (ReportedChanges []) (changes_since_of (notes_from v.tag (retained_notes (notes d)))) ≡ changes_after_version (suc k) d
     by true e = absurd (omega (arith, eqb-true d.now.tag v.tag e, earlier_tag d.now d.earlier k v kept.follows is))
     by false e = ap changes_since_of known ∙ by_test (is_retainable weight (notes_after (suc k) (versions d))) (notes_after (suc k) (versions d))
 
-pub known_exactly : (c : StoreContents) (m : State) (id : DocId) (d : Document) (number : ℕ) (v : Version) → IsValidState m → Represents c m → document_in document_name m.documents id ≡ Some d → slice_get (versions d) number ≡ Some v → since c id v.tag ≡ changes_from number d
+pub known_exactly : (c : StoreContents) (m : State) (id : DocId) (d : Document) (number : ℕ) (v : Version) → IsValidState m → Represents c m → find_document document_id m.documents id ≡ Some d → slice_get (versions d) number ≡ Some v → since c id v.tag ≡ changes_after_version number d
 known_exactly c m id d number v kept stands there is =
-    let held : document_in stored_name c.documents id ≡ Some (stored_of d) = ap (λ (x : StoreContents). document_in stored_name x.documents id) stands ∙ held_there m.documents id ∙ ap (option_map stored_of) there in
-    ap (held_since v.tag) held ∙ by_number m.next d number v (found_all (IsKept m.next) (λ x. same_id id x.id) m.documents d kept.documents there) is
+    let held : find_document stored_id c.documents id ≡ Some (stored_document d) = ap (λ (x : StoreContents). find_document stored_id x.documents id) stands ∙ held_there m.documents id ∙ ap (option_map stored_document) there in
+    ap (stored_changes_since v.tag) held ∙ by_number m.next d number v (found_all (IsValidDocument m.next) (λ x. same_id id x.id) m.documents d kept.documents there) is
 
 retainable : (w : Note → ℕ) (ns : List Note) → length ns ≤ 64 → sum_by w ns ≤ 65536 → is_retainable w ns ≡ true
 retainable w [] few light = refl
@@ -243,10 +243,10 @@ retainable w (x ∷ y ∷ xs) few light = by (length (x ∷ y ∷ xs)) (sum_by w
     by : (n s : ℕ) → n ≤ 64 → s ≤ 65536 → (nat_le n 64 && nat_le s 65536) ≡ true
     by n s few light = grind (arith, nat_tests)
 
-pub near_is_known : (c : StoreContents) (m : State) (id : DocId) (d : Document) (number : ℕ) (v : Version) → IsValidState m → Represents c m → document_in document_name m.documents id ≡ Some d → slice_get (versions d) number ≡ Some v
+pub near_is_known : (c : StoreContents) (m : State) (id : DocId) (d : Document) (number : ℕ) (v : Version) → IsValidState m → Represents c m → find_document document_id m.documents id ≡ Some d → slice_get (versions d) number ≡ Some v
     → number ≤ 64 → sum_by weight (notes_after number (versions d)) ≤ 65536 → since c id v.tag ≡ ReportedChanges (notes_after number (versions d))
 near_is_known c m id d number v kept stands there is few light =
-    let follows : FollowFrom d.now d.earlier = (found_all (IsKept m.next) (λ x. same_id id x.id) m.documents d kept.documents there).follows in
+    let follows : AreSuccessiveVersions d.now d.earlier = (found_all (IsValidDocument m.next) (λ x. same_id id x.id) m.documents d kept.documents there).follows in
     let ns = notes_after number (versions d) in
     let whole : is_retainable weight ns ≡ true = retainable weight ns (omega (arith, few, counted number d.now d.earlier v follows is)) light in
     known_exactly c m id d number v kept stands there is ∙ ap (λ (b : Bool). cond b (ReportedChanges ns) Unknown) whole

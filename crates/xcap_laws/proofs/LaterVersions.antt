@@ -3,25 +3,25 @@
 use Rattle.std.proofs.Common.{◌≡◌, ◌⊎◌, ℕ, zero, suc, ◌+◌, ◌<◌, ◌≤◌, Bool, true, false, cond, List, [], ◌∷◌, ◌++◌, length, take, reverse, Option, None, Some, option_map, slice_get, inl, inr, refl, sym, ap, ◌∙◌, subst, arith}
 use Rattle.std.specs.List.{AllByRecursion}
 use Rattle.std.proofs.lemmas.List.{reverse-append}
-use Rattle.doc_names.specs.Equality.{same_id}
+use Rattle.doc_names.specs.NameEquality.{same_id}
 use Rattle.doc_names.specs.declared.doc_id.DocId.{DocId}
 use Rattle.edit_ops.specs.declared.change.Change.{Change}
 use Rattle.edit_ops.specs.declared.edit.Edit.{Edit}
 use Rattle.edit_ops.specs.Notes.{Note, note_of}
-use Rattle.edit_ops.specs.Operations.{weight}
+use Rattle.edit_ops.specs.DiffOperations.{weight}
 use Rattle.element_watch.specs.SelectionHistory.{notes_after}
-use Rattle.store_core.specs.Contents.{stock_of}
-use Rattle.store_core.specs.DocumentChanges.{Act, Edits, Makes, Removes, act_of, after_act, document_in, document_name}
+use Rattle.store_core.specs.Contents.{contents_of}
+use Rattle.store_core.specs.DocumentChanges.{ChangeKind, Edits, Makes, Removes, change_kind, state_after_by_kind, find_document, document_id}
 use Rattle.store_core.specs.Since.{ReportedChanges, Unknown, since}
 use Rattle.store_core.specs.State.{Document, State, Version, created, document_after, versions}
-use Rattle.store_core.specs.ValidStates.{IsKept, IsValidState}
+use Rattle.store_core.specs.ValidStates.{IsValidDocument, IsValidState}
 use Rattle.store_core.proofs.Chains.{notes_of}
-use Rattle.xcap_machine.specs.Answers.{Made}
-use Rattle.xcap_machine.specs.Machine.{after_answer, made_from}
-use Rattle.xcap_machine.specs.Versions.{ComesTo, HasVersion, goes_on, stays}
+use Rattle.xcap_machine.specs.Answers.{MadeChange}
+use Rattle.xcap_machine.specs.Machine.{state_after_answer, change_from_edit}
+use Rattle.xcap_machine.specs.ReachedStates.{ReachesByValidSteps, HasVersion, goes_on, stays}
 use Rattle.xcap_machine.proofs.Documents.{found_edited, found_less, found_more}
 use Rattle.xcap_machine.proofs.OneVersion.{found_all}
-use Rattle.xcap_laws.specs.RetainedVersions.{changes_from, is_retainable}
+use Rattle.xcap_laws.specs.RetainedVersions.{changes_after_version, is_retainable}
 use Rattle.xcap_laws.proofs.KnownChanges.{known_exactly, retainable_back}
 
 -- ---- lists of versions
@@ -72,7 +72,7 @@ notes_in_two news vs i =
 
 -- ---- known changes
 
-known_notes : (number : ℕ) (d : Document) (ns : List Note) → changes_from number d ≡ ReportedChanges ns → (is_retainable weight (notes_after number (versions d)) ≡ true) × (notes_after number (versions d) ≡ ns)
+known_notes : (number : ℕ) (d : Document) (ns : List Note) → changes_after_version number d ≡ ReportedChanges ns → (is_retainable weight (notes_after number (versions d)) ≡ true) × (notes_after number (versions d) ≡ ns)
 known_notes number d ns is = by (is_retainable weight (notes_after number (versions d))) refl is
   where
     by : (b : Bool) → is_retainable weight (notes_after number (versions d)) ≡ b → cond b (ReportedChanges (notes_after number (versions d))) Unknown ≡ ReportedChanges ns
@@ -94,7 +94,7 @@ IsLater first d e = ((news : List Version) × (versions e ≡ news ++ versions d
 
 record AreLater (first : ℕ) (id : DocId) (d : Document) (s : State) : Type 0 where
   given : first ≤ s.next
-  all : (e : Document) → document_in document_name s.documents id ≡ Some e → IsLater first d e
+  all : (e : Document) → find_document document_id s.documents id ≡ Some e → IsLater first d e
 
 later_made : (first : ℕ) (d e : Document) (other : DocId) (next : ℕ) (root : _) → first ≤ next → e ≡ created other next root → IsLater first d e
 later_made first d e other next root le same = subst (IsLater first d) (sym same) (inr (le, tt))
@@ -103,20 +103,20 @@ later_edited : (first : ℕ) (d e : Document) (next : ℕ) (n : Note) → first 
 later_edited first d e next n le (inl h) = inl ((document_after next e n).now ∷ h.0, ap (λ (l : List Version). (document_after next e n).now ∷ l) h.1)
 later_edited first d e next n le (inr h) = inr (le, h)
 
-next_up : (s : State) (id : DocId) (change : Change) (act : Act) → s.next ≤ (after_act s id change act).next
+next_up : (s : State) (id : DocId) (change : Change) (act : ChangeKind) → s.next ≤ (state_after_by_kind s id change act).next
 next_up s id change (Makes root) = omega arith
 next_up s id change Edits = omega arith
 next_up s id change Removes = omega arith
 
 module _ (first : ℕ) (id : DocId) (d : Document) where
-  edited_one : (s : State) (x e : Document) (n : Note) → AreLater first id d s → document_in document_name s.documents id ≡ Some x → (e ≡ x) ⊎ (e ≡ document_after s.next x n) → IsLater first d e
+  edited_one : (s : State) (x e : Document) (n : Note) → AreLater first id d s → find_document document_id s.documents id ≡ Some x → (e ≡ x) ⊎ (e ≡ document_after s.next x n) → IsLater first d e
   edited_one s x e n h there (inl same) = subst (IsLater first d) (sym same) (h.all x there)
   edited_one s x e n h there (inr same) = subst (IsLater first d) (sym same) (later_edited first d x s.next n h.given (h.all x there))
 
-  after_one : (s : State) (other : DocId) (change : Change) (act : Act) → AreLater first id d s → (e : Document) → document_in document_name (after_act s other change act).documents id ≡ Some e → IsLater first d e
+  after_one : (s : State) (other : DocId) (change : Change) (act : ChangeKind) → AreLater first id d s → (e : Document) → find_document document_id (state_after_by_kind s other change act).documents id ≡ Some e → IsLater first d e
   after_one s other change (Makes root) h e is = by (found_more s.documents (created other s.next root) e id is)
     where
-      by : (document_in document_name s.documents id ≡ Some e) ⊎ (e ≡ created other s.next root) → IsLater first d e
+      by : (find_document document_id s.documents id ≡ Some e) ⊎ (e ≡ created other s.next root) → IsLater first d e
       by (inl there) = h.all e there
       by (inr same) = later_made first d e other s.next root h.given same
   after_one s other change Edits h e is =
@@ -125,21 +125,21 @@ module _ (first : ℕ) (id : DocId) (d : Document) where
       edited_one s f.0 e (note f.0) h f.1 f.2
   after_one s other change Removes h e is = h.all e (found_less s.documents other id e is)
 
-  after_made : (s : State) (made : Made) → AreLater first id d s → AreLater first id d (after_answer s (Some made))
+  after_made : (s : State) (made : MadeChange) → AreLater first id d s → AreLater first id d (state_after_answer s (Some made))
   after_made s made h = record {
-    given = omega (arith, h.given, next_up s made.0 made.1.change (act_of made.1.change));
-    all = after_one s made.0 made.1.change (act_of made.1.change) h;
+    given = omega (arith, h.given, next_up s made.0 made.1.change (change_kind made.1.change));
+    all = after_one s made.0 made.1.change (change_kind made.1.change) h;
   }
 
-  after_told : (s : State) (edit : Option Edit) → AreLater first id d s → AreLater first id d (after_answer s (option_map made_from edit))
+  after_told : (s : State) (edit : Option Edit) → AreLater first id d s → AreLater first id d (state_after_answer s (option_map change_from_edit edit))
   after_told s None h = h
-  after_told s (Some e) h = after_made s (made_from e) h
+  after_told s (Some e) h = after_made s (change_from_edit e) h
 
-  after_steps : (root : List ℕ) (m n : State) → ComesTo root m n → AreLater first id d m → AreLater first id d n
+  after_steps : (root : List ℕ) (m n : State) → ReachesByValidSteps root m n → AreLater first id d m → AreLater first id d n
   after_steps root _ _ (stays m) h = h
   after_steps root _ _ (goes_on m n last request reply edit step rest) h = after_steps root n last rest (subst (AreLater first id d) (sym step.1.goes_on) (after_told m edit h))
 
-valid_after : (root : List ℕ) (m n : State) → ComesTo root m n → IsValidState m → IsValidState n
+valid_after : (root : List ℕ) (m n : State) → ReachesByValidSteps root m n → IsValidState m → IsValidState n
 valid_after root _ _ (stays m) h = h
 valid_after root _ _ (goes_on m n last request reply edit step rest) h = valid_after root n last rest step.2
 
@@ -152,16 +152,16 @@ same_document : (o : Option Document) (d e : Document) → o ≡ Some d → o �
 same_document o d e a b = let both : Some e ≡ Some d = sym b ∙ a in cc
 
 -- a document that still has the version that was current has all that it had
-pub still_there : (root : List ℕ) (m n : State) (id : DocId) (d : Document) → IsValidState m → ComesTo root m n → document_in document_name m.documents id ≡ Some d → (has : HasVersion n id d.now) → (news : List Version) × (versions has.document ≡ news ++ versions d)
+pub still_there : (root : List ℕ) (m n : State) (id : DocId) (d : Document) → IsValidState m → ReachesByValidSteps root m n → find_document document_id m.documents id ≡ Some d → (has : HasVersion n id d.now) → (news : List Version) × (versions has.document ≡ news ++ versions d)
 still_there root m n id d kept reaches there has = by (later.all has.document has.there)
   where
     later : AreLater m.next id d n
     later =
         after_steps m.next id d root m n reaches
-        (record { given = omega arith; all = λ e is. inl ([], ap versions (same_document (document_in document_name m.documents id) d e there is)) })
+        (record { given = omega arith; all = λ e is. inl ([], ap versions (same_document (find_document document_id m.documents id) d e there is)) })
 
     low : d.now.tag < m.next
-    low = (found_all (IsKept m.next) (λ x. same_id id x.id) m.documents d kept.documents there).tags.0.1
+    low = (found_all (IsValidDocument m.next) (λ x. same_id id x.id) m.documents d kept.documents there).tags.0.1
 
     by : IsLater m.next d has.document → (news : List Version) × (versions has.document ≡ news ++ versions d)
     by (inl h) = h
@@ -169,21 +169,21 @@ still_there root m n id d kept reaches there has = by (later.all has.document ha
 
 -- ---- what is told in two parts
 
-pub told_once : (root : List ℕ) (m n : State) (id : DocId) (d : Document) (number : ℕ) (u : Version) (earlier all : List Note) → IsValidState m → ComesTo root m n → document_in document_name m.documents id ≡ Some d → slice_get (versions d) number ≡ Some u
-    → HasVersion n id d.now → since (stock_of m) id u.tag ≡ ReportedChanges earlier → since (stock_of n) id u.tag ≡ ReportedChanges all → (later : List Note) × (since (stock_of n) id d.now.tag ≡ ReportedChanges later) × (all ≡ earlier ++ later)
+pub told_once : (root : List ℕ) (m n : State) (id : DocId) (d : Document) (number : ℕ) (u : Version) (earlier all : List Note) → IsValidState m → ReachesByValidSteps root m n → find_document document_id m.documents id ≡ Some d → slice_get (versions d) number ≡ Some u
+    → HasVersion n id d.now → since (contents_of m) id u.tag ≡ ReportedChanges earlier → since (contents_of n) id u.tag ≡ ReportedChanges all → (later : List Note) × (since (contents_of n) id d.now.tag ≡ ReportedChanges later) × (all ≡ earlier ++ later)
 told_once root m n id d number u earlier all kept reaches there is has before now =
     let e = has.document in
     let kept_on = valid_after root m n reaches kept in
     let more = still_there root m n id d kept reaches there has in
     let k = length more.0 in
-    let old : notes_after number (versions d) ≡ earlier = (known_notes number d earlier (sym (known_exactly (stock_of m) m id d number u kept refl there is) ∙ before)).1 in
+    let old : notes_after number (versions d) ≡ earlier = (known_notes number d earlier (sym (known_exactly (contents_of m) m id d number u kept refl there is) ∙ before)).1 in
     let u_there : slice_get (versions e) (k + number) ≡ Some u = ap (λ (l : List Version). slice_get l (k + number)) more.1 ∙ item_past more.0 (versions d) number ∙ is in
     let v_there : slice_get (versions e) k ≡ Some d.now = ap (λ (l : List Version). slice_get l k) more.1 ∙ first_past more.0 (versions d) in
-    let whole = known_notes (k + number) e all (sym (known_exactly (stock_of n) n id e (k + number) u kept_on refl has.there u_there) ∙ now) in
+    let whole = known_notes (k + number) e all (sym (known_exactly (contents_of n) n id e (k + number) u kept_on refl has.there u_there) ∙ now) in
     let parts : notes_after (k + number) (versions e) ≡ notes_after number (versions d) ++ notes_after k (versions e) =
     ap (notes_after (k + number)) more.1 ∙ notes_in_two more.0 (versions d) number ∙ ap (λ (l : List Version). notes_after number (versions d) ++ notes_after k l) (sym more.1) in
     let rest : is_retainable weight (notes_after k (versions e)) ≡ true = retainable_end weight (notes_after number (versions d)) (notes_after k (versions e)) (ap (is_retainable weight) (sym parts) ∙ whole.0) in (
       notes_after k (versions e),
-      known_exactly (stock_of n) n id e k d.now kept_on refl has.there v_there ∙ ap (λ (b : Bool). cond b (ReportedChanges (notes_after k (versions e))) Unknown) rest,
+      known_exactly (contents_of n) n id e k d.now kept_on refl has.there v_there ∙ ap (λ (b : Bool). cond b (ReportedChanges (notes_after k (versions e))) Unknown) rest,
       sym whole.1 ∙ parts ∙ ap (λ (l : List Note). l ++ notes_after k (versions e)) old,
     )

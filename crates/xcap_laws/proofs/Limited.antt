@@ -12,18 +12,18 @@ use Rattle.doc_names.specs.declared.usages.Usage.{Usage}
 use Rattle.doc_names.specs.declared.doc_id.DocId.{DocId}
 use Rattle.edit_ops.specs.Changes.{edited}
 use Rattle.edit_ops.specs.Notes.{Note}
-use Rattle.edit_ops.specs.Operations.{weight}
+use Rattle.edit_ops.specs.DiffOperations.{weight}
 use Rattle.edit_ops.specs.declared.change.Change.{Change}
 use Rattle.edit_ops.specs.declared.edit.Edit.{Edit}
 use Rattle.http_wire.specs.declared.request.Request.{Request}
 use Rattle.reply_text.specs.ReplyHeads.{SentReply}
 use Rattle.request_checks.specs.Methods.{method_of}
 use Rattle.request_checks.specs.declared.method.Method.{Method}
-use Rattle.store_core.specs.Contents.{StoredDocument, StoreContents as Content, stock_of, stored_of}
-use Rattle.store_core.specs.DocumentChanges.{Act, Makes, Edits, Removes, act_of, after_act, refusal_of, refusal_of_number, refusal_of_tree, refusal_or, change_result, content_after, document_in, note_for, stored_name}
-use Rattle.store_core.specs.Queries.{Asks, AsksAct}
-use Rattle.store_core.specs.State.{Document, State, Version, first_state, is_small, notes, small_end, versions}
-use Rattle.store_core.specs.ValidStates.{IsKept, IsSoundFor, IsValidState}
+use Rattle.store_core.specs.Contents.{StoredDocument, StoreContents as Content, contents_of, stored_document}
+use Rattle.store_core.specs.DocumentChanges.{ChangeKind, Makes, Edits, Removes, change_kind, state_after_by_kind, refusal_of, refusal_of_number, refusal_of_tree, refusal_or, change_result, contents_after, find_document, note_for, stored_id}
+use Rattle.store_core.specs.ChangePreconditions.{MayRequest, MayRequestByKind}
+use Rattle.store_core.specs.State.{Document, State, Version, first_state, is_within_retention, notes, longest_retained_end, versions}
+use Rattle.store_core.specs.ValidStates.{IsValidDocument, IsSoundDocumentFor, IsValidState}
 use Rattle.store_core.specs.declared.refusal.StoreRefusal.{StoreRefusal}
 use Rattle.store_core.specs.declared.refusal.StoreRefusal.TheVariants.{NoNumber}
 use Rattle.store_core.proofs.AcceptedChanges.{sum-first}
@@ -31,11 +31,11 @@ use Rattle.store_core.proofs.KeptAfter.{kept-first}
 use Rattle.store_core.proofs.PutLengths.{print_len}
 use Rattle.store_core.proofs.SoundHeld.{all_sound}
 use Rattle.xcap_machine.specs.Answers.{Answer}
-use Rattle.xcap_machine.specs.Machine.{Step, after_answer, answer_as}
+use Rattle.xcap_machine.specs.Machine.{Step, state_after_answer, answer_with_edit}
 use Rattle.xcap_machine.proofs.Steps.{kept_after}
 use Rattle.xcap_machine.proofs.Ways.{Way, changes, stays, way_of}
-use Rattle.xcap_laws.specs.DocumentLimits.{AreFew, IsDocumentWithin, IsWithin, KeepsLimits, printed_len}
-use Rattle.xcap_laws.specs.Runs.{Reaches, goes_on, stays as ends}
+use Rattle.xcap_laws.specs.DocumentLimits.{AreRetainedRecords, IsDocumentWithinLimits, IsVersionWithinLimits, KeepsLimits, printed_len}
+use Rattle.xcap_laws.specs.MachineRuns.{ReachesBySteps, goes_on, stays as ends}
 
 -- ---- the retained records
 
@@ -46,12 +46,12 @@ both false b h = absurd cc
 low : (n k : ℕ) → nat_le n k ≡ true → n ≤ k
 low n k h = grind (arith, nat_tests)
 
-few_end : (xs : List Note) → AreFew xs (small_end weight xs)
+few_end : (xs : List Note) → AreRetainedRecords xs (longest_retained_end weight xs)
 few_end [] = record { newest = ([], refl); some = λ h. refl; few = omega arith; light = inl (omega arith) }
 few_end (x ∷ []) = record { newest = ([], refl); some = λ h. h; few = omega arith; light = inr refl }
-few_end (x ∷ y ∷ xs) = by (is_small weight (x ∷ y ∷ xs)) refl (few_end (y ∷ xs))
+few_end (x ∷ y ∷ xs) = by (is_within_retention weight (x ∷ y ∷ xs)) refl (few_end (y ∷ xs))
   where
-    by : (b : Bool) → is_small weight (x ∷ y ∷ xs) ≡ b → AreFew (y ∷ xs) (small_end weight (y ∷ xs)) → AreFew (x ∷ y ∷ xs) (small_end weight (x ∷ y ∷ xs))
+    by : (b : Bool) → is_within_retention weight (x ∷ y ∷ xs) ≡ b → AreRetainedRecords (y ∷ xs) (longest_retained_end weight (y ∷ xs)) → AreRetainedRecords (x ∷ y ∷ xs) (longest_retained_end weight (x ∷ y ∷ xs))
     by true e r =
         let small = both (nat_le (length (x ∷ y ∷ xs)) 64) (nat_le (sum_by weight (x ∷ y ∷ xs)) 65536) e in
         rw e (record { newest = ([], refl); some = λ h. h; few = low (length (x ∷ y ∷ xs)) 64 small.0; light = inl (low (sum_by weight (x ∷ y ∷ xs)) 65536 small.1) })
@@ -64,24 +64,24 @@ printed : (t : Tree) → printed_len t ≡ document_len t
 printed t = print_len t (encode_utf8_all (document_print t)) refl
 
 module _ (next : ℕ) (low_next : next ≤ 18446744073709551616) where
-  within : (usage : Option Usage) (v : Version) → IsSoundFor usage v.tree → (1 ≤ v.tag) × (v.tag < next) → IsWithin v
+  within : (usage : Option Usage) (v : Version) → IsSoundDocumentFor usage v.tree → (1 ≤ v.tag) × (v.tag < next) → IsVersionWithinLimits v
   within None v sound dated = absurd sound
   within (Some usage) v sound dated =
       record { levels = sound.low; bytes = omega (arith, printed v.tree, sound.short); tag = (dated.0, omega (arith, dated.1, low_next)) }
 
-  all_within : (usage : Option Usage) (vs : List Version) → AllByRecursion (λ v. IsSoundFor usage v.tree) vs → AllByRecursion (λ v. (1 ≤ v.tag) × (v.tag < next)) vs → AllByRecursion IsWithin vs
+  all_within : (usage : Option Usage) (vs : List Version) → AllByRecursion (λ v. IsSoundDocumentFor usage v.tree) vs → AllByRecursion (λ v. (1 ≤ v.tag) × (v.tag < next)) vs → AllByRecursion IsVersionWithinLimits vs
   all_within usage [] sound dated = tt
   all_within usage (v ∷ vs) sound dated = (within usage v sound.0 dated.0, all_within usage vs sound.1 dated.1)
 
-  documents_within : (ds : List Document) → AllByRecursion (IsKept next) ds → AllByRecursion IsDocumentWithin ds
+  documents_within : (ds : List Document) → AllByRecursion (IsValidDocument next) ds → AllByRecursion IsDocumentWithinLimits ds
   documents_within [] kept = tt
   documents_within (d ∷ ds) kept =
       (record { versions_within = all_within (usage_of d.id.auid) (versions d) kept.0.sound kept.0.tags; records = few_end (notes d) }, documents_within ds kept.1)
 
-sums : (ds : List Document) → sum_by (λ (h : StoredDocument). printed_len h.tree) (map stored_of ds) ≡ sum_by (λ d. document_len d.now.tree) ds
+sums : (ds : List Document) → sum_by (λ (h : StoredDocument). printed_len h.tree) (map stored_document ds) ≡ sum_by (λ d. document_len d.now.tree) ds
 sums [] = refl
 sums (d ∷ ds) =
-    let first = sum-first (λ (h : StoredDocument). printed_len h.tree) (stored_of d) (map stored_of ds) in
+    let first = sum-first (λ (h : StoredDocument). printed_len h.tree) (stored_document d) (map stored_document ds) in
     let same = sum-first (λ (e : Document). document_len e.now.tree) d ds in
     omega (arith, first, same, printed d.now.tree, sums ds)
 
@@ -106,12 +106,12 @@ fits c h = by (nat_le 18446744073709551616 c.next) refl h
     by true e s = cc
     by false e s = under c.next e
 
-by_act : (c : Content) (id : DocId) (change : Change) (act : Act) (held : Option StoredDocument) → AsksAct c id change act → document_in stored_name c.documents id ≡ held → refusal_of c id change held act ≡ None → c.next < 18446744073709551616
+by_act : (c : Content) (id : DocId) (change : Change) (act : ChangeKind) (held : Option StoredDocument) → MayRequestByKind c id change act → find_document stored_id c.documents id ≡ held → refusal_of c id change held act ≡ None → c.next < 18446744073709551616
 by_act c id change (Makes root) held asks is h = fits c (none_after (refusal_of_tree c id true root) (refusal_of_number c) h)
 by_act c id change Edits (Some d) asks is h = fits c (none_after (refusal_of_tree c id false (edited d.tree change)) (refusal_of_number c) h)
 by_act c id change Edits None asks is h = absurd (asked asks)
   where
-    asked : AsksAct c id change Edits → ⊥
+    asked : MayRequestByKind c id change Edits → ⊥
     asked a = rw is at a
 by_act c id change Removes held asks is h = fits c h
 
@@ -120,38 +120,38 @@ not_refused None note told c next h = refl
 not_refused (Some refusal) note told c next h = cc
 
 -- a change that the store makes gets a number of 64 bits
-number_fits : (c : Content) (id : DocId) (change : Change) (note : Note) (next : Content) → Asks c id change → change_result c id change ≡ Ok (note, next) → c.next < 18446744073709551616
+number_fits : (c : Content) (id : DocId) (change : Change) (note : Note) (next : Content) → MayRequest c id change → change_result c id change ≡ Ok (note, next) → c.next < 18446744073709551616
 number_fits c id change note next asks h =
-    let held = document_in stored_name c.documents id in
-    by_act c id change (act_of change) held asks refl (not_refused (refusal_of c id change held (act_of change)) (note_for c id change held) note (content_after c id change) next h)
+    let held = find_document stored_id c.documents id in
+    by_act c id change (change_kind change) held asks refl (not_refused (refusal_of c id change held (change_kind change)) (note_for c id change held) note (contents_after c id change) next h)
 
-next_number : (m : State) (id : DocId) (change : Change) (act : Act) → (after_act m id change act).next ≡ m.next + 1
+next_number : (m : State) (id : DocId) (change : Change) (act : ChangeKind) → (state_after_by_kind m id change act).next ≡ m.next + 1
 next_number m id change (Makes root) = refl
 next_number m id change Edits = refl
 next_number m id change Removes = refl
 
-number_by : (method : Method) (closes : Bool) (m : State) (a : Answer) → IsValidState m → m.next ≤ 18446744073709551616 → Way method closes (stock_of m) a → (after_answer m a.made).next ≤ 18446744073709551616
+number_by : (method : Method) (closes : Bool) (m : State) (a : Answer) → IsValidState m → m.next ≤ 18446744073709551616 → Way method closes (contents_of m) a → (state_after_answer m a.made).next ≤ 18446744073709551616
 number_by method closes m a kept few (stays reply tells same is) =
-    subst (λ (x : Answer). (after_answer m x.made).next ≤ 18446744073709551616) (sym is) few
+    subst (λ (x : Answer). (state_after_answer m x.made).next ≤ 18446744073709551616) (sym is) few
 number_by method closes m a kept few (changes reply tells same id change note next asks made is) =
-    let below = number_fits (stock_of m) id change note next (asks (all_sound (stock_of m) m refl kept)) made in
-    subst (λ (x : Answer). (after_answer m x.made).next ≤ 18446744073709551616) (sym is)
-    (omega (arith, below, next_number m id note.change (act_of note.change)))
+    let below = number_fits (contents_of m) id change note next (asks (all_sound (contents_of m) m refl kept)) made in
+    subst (λ (x : Answer). (state_after_answer m x.made).next ≤ 18446744073709551616) (sym is)
+    (omega (arith, below, next_number m id note.change (change_kind note.change)))
 
 number_after : (root : List ℕ) (m : State) (request : Request) (reply : SentReply) (next : State) (edit : Option Edit) → Step root m request reply next edit → IsValidState m → m.next ≤ 18446744073709551616 → next.next ≤ 18446744073709551616
 number_after root m request reply next edit s kept few =
-    let a = answer_as reply edit in
+    let a = answer_with_edit reply edit in
     subst (λ (x : State). x.next ≤ 18446744073709551616) (sym s.goes_on)
-    (number_by (method_of request.method) request.closes m a kept few (way_of root (stock_of m) request a s.answers))
+    (number_by (method_of request.method) request.closes m a kept few (way_of root (contents_of m) request a s.answers))
 
 -- ---- runs
 
-pub run_keeps : (root : List ℕ) (m last : State) → Reaches root m last → IsValidState m → m.next ≤ 18446744073709551616 → IsValidState last × (last.next ≤ 18446744073709551616)
+pub run_keeps : (root : List ℕ) (m last : State) → ReachesBySteps root m last → IsValidState m → m.next ≤ 18446744073709551616 → IsValidState last × (last.next ≤ 18446744073709551616)
 run_keeps root _ _ (ends m) kept few = (kept, few)
 run_keeps root _ _ (goes_on m n last request reply edit step rest) kept few =
     run_keeps root n last rest (kept_after root m request reply n edit step kept) (number_after root m request reply n edit step kept few)
 
-pub limits_hold : (root : List ℕ) (first : ℕ) (m : State) → 1 ≤ first → first < 18446744073709551616 → Reaches root (first_state first) m → KeepsLimits m
+pub limits_hold : (root : List ℕ) (first : ℕ) (m : State) → 1 ≤ first → first < 18446744073709551616 → ReachesBySteps root (first_state first) m → KeepsLimits m
 limits_hold root first m positive few run =
     let start : IsValidState (first_state first) = kept-first first positive in
     let last = run_keeps root (first_state first) m run start (omega (arith, few)) in

@@ -10,15 +10,15 @@ use Rattle.std.proofs.lemmas.Fmt.{decimal_is_IsNumeral, decimal_nonempty}
 use Rattle.std.proofs.lemmas.Str.{chars-IsAscii, IsUtf8-from_ascii}
 use Rattle.httparse.specs.Grammar.{Field, IsField, IsToken, is_token_byte, is_value_byte, AllPass, trim_ows, crlf}
 use Rattle.httparse.specs.Spans.{name_and_value}
-use Rattle.http_wire.specs.Fields.{is_number, same_ignoring_case, values_of}
+use Rattle.http_wire.specs.Fields.{is_number, same_ignoring_case, field_values}
 use Rattle.reply_text.specs.ReplyHeads.{HeadFields, media_type}
 use Rattle.reply_text.specs.declared.media_types.MediaType.{MediaType}
 use Rattle.reply_text.specs.declared.media_types.MediaType.TheVariants as medias
-use Rattle.request_checks.specs.Tags.{AreAll, is_tag_byte}
+use Rattle.request_checks.specs.Tags.{AllBytesPass, is_tag_byte}
 use Rattle.xcap_client.proofs.QuoteLemmas.{all_pass}
 use Rattle.xcap_client.proofs.Visible.{is_visible, each_true, passes, visible_in_value, visible_trims, visible-append}
-use Rattle.xcap_client.specs.BodyLengths.{extent_by, extent_by_length, within_limit}
-use Rattle.xcap_client.specs.Tags.{GivesTag, TagIs}
+use Rattle.xcap_client.specs.BodyLengths.{body_extent, extent_by_length, exact_body_length}
+use Rattle.xcap_client.specs.ResponseTags.{HasTag, IsTagOf}
 use Rattle.xcap_client.specs.declared.body_length.BodyLength.{BodyLength}
 use Rattle.xcap_client.specs.declared.body_length.BodyLength.TheVariants.{Empty}
 use Rattle.xcap_client.specs.declared.response_fault.ResponseFault.{ResponseFault}
@@ -109,18 +109,18 @@ parsed f = come_back (lines_of f) (all_sent f)
 
 -- # The values of fields
 
-values-append : (name : List ℕ) (xs ys : List Line) → values_of name (xs ++ ys) ≡ values_of name xs ++ values_of name ys
+values-append : (name : List ℕ) (xs ys : List Line) → field_values name (xs ++ ys) ≡ field_values name xs ++ field_values name ys
 values-append name [] ys = refl
 values-append name (x ∷ xs) ys = on (same_ignoring_case x.0 name) (values-append name xs ys)
   where
-    on : (b : Bool) → values_of name (xs ++ ys) ≡ values_of name xs ++ values_of name ys
-        → (if b then x.1 ∷ values_of name (xs ++ ys) else values_of name (xs ++ ys)) ≡ (if b then x.1 ∷ values_of name xs else values_of name xs) ++ values_of name ys
+    on : (b : Bool) → field_values name (xs ++ ys) ≡ field_values name xs ++ field_values name ys
+        → (if b then x.1 ∷ field_values name (xs ++ ys) else field_values name (xs ++ ys)) ≡ (if b then x.1 ∷ field_values name xs else field_values name xs) ++ field_values name ys
     on true later = ap (λ l. x.1 ∷ l) later
     on false later = later
 
 -- the values of a name, line by line
-values : (name : List ℕ) (f : HeadFields) → values_of name (lines_of f)
-    ≡ values_of name (tag_lines f.tag) ++ (values_of name (allow_lines f.read_only) ++ (values_of name (media_lines f.media) ++ (values_of name (size_lines (f.status == 304) f.size) ++ values_of name (close_lines f.closes))))
+values : (name : List ℕ) (f : HeadFields) → field_values name (lines_of f)
+    ≡ field_values name (tag_lines f.tag) ++ (field_values name (allow_lines f.read_only) ++ (field_values name (media_lines f.media) ++ (field_values name (size_lines (f.status == 304) f.size) ++ field_values name (close_lines f.closes))))
 values name f =
     let e : List Line = tag_lines f.tag in
     let a : List Line = allow_lines f.read_only in
@@ -128,33 +128,33 @@ values name f =
     let l : List Line = size_lines (f.status == 304) f.size in
     let c : List Line = close_lines f.closes in
     values-append name e (a ++ (m ++ (l ++ c)))
-    ∙ ap (λ x. values_of name e ++ x) (values-append name a (m ++ (l ++ c))
-    ∙ ap (λ x. values_of name a ++ x) (values-append name m (l ++ c)
-    ∙ ap (λ x. values_of name m ++ x) (values-append name l c)))
+    ∙ ap (λ x. field_values name e ++ x) (values-append name a (m ++ (l ++ c))
+    ∙ ap (λ x. field_values name a ++ x) (values-append name m (l ++ c)
+    ∙ ap (λ x. field_values name m ++ x) (values-append name l c)))
 
 -- the lines of a head have no value of a name that none of them has
 module _ (name : List ℕ) where
-  no_tag : same_ignoring_case (codes "ETag") name ≡ false → (tag : Option ℕ) → values_of name (tag_lines tag) ≡ []
+  no_tag : same_ignoring_case (codes "ETag") name ≡ false → (tag : Option ℕ) → field_values name (tag_lines tag) ≡ []
   no_tag other None = refl
   no_tag other (Some n) = rw other refl
 
-  no_allow : same_ignoring_case (codes "Allow") name ≡ false → (read_only : Option Bool) → values_of name (allow_lines read_only) ≡ []
+  no_allow : same_ignoring_case (codes "Allow") name ≡ false → (read_only : Option Bool) → field_values name (allow_lines read_only) ≡ []
   no_allow other None = refl
   no_allow other (Some r) = rw other refl
 
-  no_media : same_ignoring_case (codes "Content-Type") name ≡ false → (media : Option MediaType) → values_of name (media_lines media) ≡ []
+  no_media : same_ignoring_case (codes "Content-Type") name ≡ false → (media : Option MediaType) → field_values name (media_lines media) ≡ []
   no_media other None = refl
   no_media other (Some m) = rw other refl
 
-  no_size : same_ignoring_case (codes "Content-Length") name ≡ false → (bodiless : Bool) (size : ℕ) → values_of name (size_lines bodiless size) ≡ []
+  no_size : same_ignoring_case (codes "Content-Length") name ≡ false → (bodiless : Bool) (size : ℕ) → field_values name (size_lines bodiless size) ≡ []
   no_size other true size = refl
   no_size other false size = rw other refl
 
-  no_close : same_ignoring_case (codes "Connection") name ≡ false → (closes : Bool) → values_of name (close_lines closes) ≡ []
+  no_close : same_ignoring_case (codes "Connection") name ≡ false → (closes : Bool) → field_values name (close_lines closes) ≡ []
   no_close other true = rw other refl
   no_close other false = refl
 
-pub no_coding : (f : HeadFields) → values_of (codes "transfer-encoding") (lines_of f) ≡ []
+pub no_coding : (f : HeadFields) → field_values (codes "transfer-encoding") (lines_of f) ≡ []
 no_coding f =
     let name : List ℕ = codes "transfer-encoding" in
     values name f ∙ rw (no_tag name refl f.tag, no_allow name refl f.read_only, no_media name refl f.media, no_size name refl (f.status == 304) f.size, no_close name refl f.closes) refl
@@ -162,36 +162,36 @@ no_coding f =
 abbrev pub lengths : Bool → ℕ → List (List ℕ)
 lengths bodiless size = if bodiless then [] else decimal size ∷ []
 
-pub length_values : (f : HeadFields) → values_of (codes "content-length") (lines_of f) ≡ lengths (f.status == 304) f.size
+pub length_values : (f : HeadFields) → field_values (codes "content-length") (lines_of f) ≡ lengths (f.status == 304) f.size
 length_values f =
     let name : List ℕ = codes "content-length" in
     values name f ∙ rw (no_tag name refl f.tag, no_allow name refl f.read_only, no_media name refl f.media, no_close name refl f.closes) (at (f.status == 304) f.size)
   where
-    at : (bodiless : Bool) (size : ℕ) → values_of (codes "content-length") (size_lines bodiless size) ++ [] ≡ lengths bodiless size
+    at : (bodiless : Bool) (size : ℕ) → field_values (codes "content-length") (size_lines bodiless size) ++ [] ≡ lengths bodiless size
     at true size = refl
     at false size = refl
 
 abbrev pub tags : Option ℕ → List (List ℕ)
 tags tag = option_map_or (λ n. tag_value n ∷ []) tag []
 
-pub tag_values : (f : HeadFields) → values_of (codes "etag") (lines_of f) ≡ tags f.tag
+pub tag_values : (f : HeadFields) → field_values (codes "etag") (lines_of f) ≡ tags f.tag
 tag_values f =
     let name : List ℕ = codes "etag" in
     values name f ∙ rw (no_allow name refl f.read_only, no_media name refl f.media, no_size name refl (f.status == 304) f.size, no_close name refl f.closes) (at f.tag)
   where
-    at : (tag : Option ℕ) → values_of (codes "etag") (tag_lines tag) ++ [] ≡ tags tag
+    at : (tag : Option ℕ) → field_values (codes "etag") (tag_lines tag) ++ [] ≡ tags tag
     at None = refl
     at (Some n) = refl
 
 abbrev pub closings : Bool → List (List ℕ)
 closings closes = if closes then codes "close" ∷ [] else []
 
-pub close_values : (f : HeadFields) → values_of (codes "connection") (lines_of f) ≡ closings f.closes
+pub close_values : (f : HeadFields) → field_values (codes "connection") (lines_of f) ≡ closings f.closes
 close_values f =
     let name : List ℕ = codes "connection" in
     values name f ∙ rw (no_tag name refl f.tag, no_allow name refl f.read_only, no_media name refl f.media, no_size name refl (f.status == 304) f.size) (at f.closes)
   where
-    at : (closes : Bool) → values_of (codes "connection") (close_lines closes) ≡ closings closes
+    at : (closes : Bool) → field_values (codes "connection") (close_lines closes) ≡ closings closes
     at true = refl
     at false = refl
 
@@ -200,7 +200,7 @@ close_values f =
 tag_digit : (b : ℕ) → is_ascii_digit b ≡ true → is_tag_byte b ≡ true
 tag_digit b is = grind (arith, nat_tests)
 
-by_values : (fields : List Line) (tag : Option ℕ) → values_of (codes "etag") fields ≡ tags tag → TagIs fields (option_map decimal tag)
+by_values : (fields : List Line) (tag : Option ℕ) → field_values (codes "etag") fields ≡ tags tag → IsTagOf fields (option_map decimal tag)
 by_values fields None none = λ tag gives. let z : gives.value ∷ [] ≡ [] = sym gives.once ∙ none in absurd cc
 by_values fields (Some n) once =
     let ascii = ascii_digits (decimal n) (all_digits n) in
@@ -213,7 +213,7 @@ by_values fields (Some n) once =
       text = sym (chars-IsAscii (decimal n) ascii);
     }
 
-pub tag_is : (f : HeadFields) → TagIs (lines_of f) (option_map decimal f.tag)
+pub tag_is : (f : HeadFields) → IsTagOf (lines_of f) (option_map decimal f.tag)
 tag_is f = by_values (lines_of f) f.tag (tag_values f)
 
 a_number : (n : ℕ) → n < 2 ^ 64 → is_number (decimal n) ≡ true
@@ -224,10 +224,10 @@ a_number n small = and_from _ _ (some (length (decimal n)) (decimal_nonempty n s
 
 -- the length of the body by the head of a reply: none at 304, and else the size
 abbrev pub extent_for : Bool → ℕ → Result BodyLength ResponseFault
-extent_for bodiless size = if bodiless then Ok Empty else within_limit size
+extent_for bodiless size = if bodiless then Ok Empty else exact_body_length size
 
-pub extent_is : (f : HeadFields) → (f.status == 204) ≡ false → f.size < 2 ^ 64 → extent_by f.status (lines_of f) ≡ extent_for (f.status == 304) f.size
-unfolding extent_by extent_by_length
+pub extent_is : (f : HeadFields) → (f.status == 204) ≡ false → f.size < 2 ^ 64 → body_extent f.status (lines_of f) ≡ extent_for (f.status == 304) f.size
+unfolding body_extent extent_by_length
 extent_is f other small = rw (no_coding f, length_values f, other) (at (f.status == 304))
   where
     at : (b : Bool) → extent_by_length b (lengths b f.size) ≡ extent_for b f.size

@@ -10,16 +10,16 @@ use Rattle.std.proofs.lemmas.List.{length-map, take_at}
 use Rattle.std.proofs.lemmas.List.Elements.{All-from_recursion}
 use Rattle.httparse.specs.Grammar.{ResponseHead, IsResponseHead, IsField, is_value_byte, print_response, status_code}
 use Rattle.httparse.specs.Spans.{name_and_value}
-use Rattle.reply_text.specs.ReplyHeads.{HeadFields, SentReply, bytes_of, head_of, sent, status_line, etag_line, allow_line, media_type, media_line, length_line, close_line, line_end}
+use Rattle.reply_text.specs.ReplyHeads.{HeadFields, SentReply, reply_bytes, head_of, sent_reply, status_line, etag_line, allow_line, media_type, media_line, length_line, close_line, line_end}
 use Rattle.reply_text.specs.Statuses.{is_status, reason}
 use Rattle.reply_text.specs.declared.media_types.MediaType.{MediaType}
 use Rattle.reply_text.specs.declared.media_types.MediaType.TheVariants as medias
 use Rattle.xcap_client.proofs.Visible.{passes}
-use Rattle.xcap_client.specs.BodyLengths.{body_to, extent_by, within_limit}
-use Rattle.xcap_client.specs.Heads.{BeginsWithHead}
+use Rattle.xcap_client.specs.BodyLengths.{body_result, body_extent, exact_body_length}
+use Rattle.xcap_client.specs.ResponseHeads.{BeginsWithHead}
 use Rattle.xcap_client.specs.declared.body_length.TheConstants.{MAX_RESPONSE_BODY_BYTES}
 use Rattle.xcap_client.specs.Responses.{IsResponseOf, extent_of, refused, responds, response_of}
-use Rattle.xcap_client.specs.Tags.{TagIs}
+use Rattle.xcap_client.specs.ResponseTags.{IsTagOf}
 use Rattle.xcap_client.specs.declared.body_length.BodyLength.{BodyLength}
 use Rattle.xcap_client.specs.declared.body_length.BodyLength.TheVariants.{Empty, Exactly}
 use Rattle.xcap_client.specs.declared.response_fault.ResponseFault.{ResponseFault}
@@ -27,7 +27,7 @@ use Rattle.xcap_client.specs.declared.response_fault.ResponseFault.TheVariants.{
 use Rattle.xcap_laws.proofs.DecimalDigits.{all_digits, few_digits, three_digits}
 use Rattle.xcap_laws.proofs.ReplyFields.{extent_for, extent_is, fields_of, parsed, tag_is}
 use Rattle.xcap_laws.proofs.ReplyLines.{IsPhrase, Line, a_phrase, allow_lines, close_lines, framed_status, lines_of, media_lines, printed, size_lines, tag_lines, tree, tree_of}
-use Rattle.xcap_laws.specs.ReadReplies.{IsReadBack, response_to}
+use Rattle.xcap_laws.specs.ReadReplies.{IsReadBackReply, response_of_reply}
 
 -- # The status
 
@@ -170,7 +170,7 @@ begins f rest lawful = record {
 }
 
 -- and with the reply's body after it
-pub begins_reply : (f : HeadFields) (body more : List ℕ) → is_status f.status ≡ true → BeginsWithHead (bytes_of (sent f body) ++ more) (tree_of f) (body ++ more)
+pub begins_reply : (f : HeadFields) (body more : List ℕ) → is_status f.status ≡ true → BeginsWithHead (reply_bytes (sent_reply f body) ++ more) (tree_of f) (body ++ more)
 begins_reply f body more lawful = subst (λ (l : List ℕ). BeginsWithHead l (tree_of f) (body ++ more)) (sym (append_assoc (head_of f) body more)) (begins f (body ++ more) lawful)
 
 pub code_is : (f : HeadFields) → is_status f.status ≡ true → status_code (tree_of f) ≡ f.status
@@ -181,8 +181,8 @@ code_is f lawful =
 pub extent : (f : HeadFields) → is_status f.status ≡ true → f.size < 2 ^ 64 → extent_of (tree_of f) ≡ extent_for (f.status == 304) f.size
 extent f lawful small =
     let three = digits_of_status f.status lawful in
-    ap (λ (n : ℕ). extent_by n (map name_and_value (tree_of f).fields)) (code_is f lawful)
-    ∙ ap (extent_by f.status) (parsed f)
+    ap (λ (n : ℕ). body_extent n (map name_and_value (tree_of f).fields)) (code_is f lawful)
+    ∙ ap (body_extent f.status) (parsed f)
     ∙ extent_is f three.other small
 
 -- # The body
@@ -193,23 +193,23 @@ pub record IsFramedBy (f : HeadFields) (body : List ℕ) : Type 0 where
   pub size : f.size ≡ length body
   pub bodiless : (f.status == 304) ≡ true → body ≡ []
 
-pub body_read : (size : ℕ) (body more : List ℕ) (bodiless : Bool) → size ≡ length body → (bodiless ≡ true → body ≡ []) → length body ≤ MAX_RESPONSE_BODY_BYTES → body_to (extent_for bodiless size) (body ++ more) ≡ Ok body
+pub body_read : (size : ℕ) (body more : List ℕ) (bodiless : Bool) → size ≡ length body → (bodiless ≡ true → body ≡ []) → length body ≤ MAX_RESPONSE_BODY_BYTES → body_result (extent_for bodiless size) (body ++ more) ≡ Ok body
 body_read size body more true same none short = ap Ok (sym (none refl))
 body_read size body more false same none short =
     rw (le-ltb MAX_RESPONSE_BODY_BYTES size (omega (arith, same, short)), le-ltb (length (body ++ more)) size (omega (arith, same, length-append body more)))
     (ap Ok (take_at body more size (sym same)))
 
-pub tag_read : (f : HeadFields) → TagIs (map name_and_value (tree_of f).fields) (option_map decimal f.tag)
-tag_read f = subst (λ (l : List Line). TagIs l (option_map decimal f.tag)) (sym (parsed f)) (tag_is f)
+pub tag_read : (f : HeadFields) → IsTagOf (map name_and_value (tree_of f).fields) (option_map decimal f.tag)
+tag_read f = subst (λ (l : List Line). IsTagOf l (option_map decimal f.tag)) (sym (parsed f)) (tag_is f)
 
-pub says_back : (f : HeadFields) (body more : List ℕ) → IsFramedBy f body → length body ≤ MAX_RESPONSE_BODY_BYTES → IsResponseOf (bytes_of (sent f body) ++ more) (Ok (response_to (sent f body) f.tag))
+pub says_back : (f : HeadFields) (body more : List ℕ) → IsFramedBy f body → length body ≤ MAX_RESPONSE_BODY_BYTES → IsResponseOf (reply_bytes (sent_reply f body) ++ more) (Ok (response_of_reply (sent_reply f body) f.tag))
 says_back f body more framed short =
     let small : f.size < 2 ^ 64 = omega (arith, framed.size, short) in
     responds (tree_of f) (body ++ more) (option_map decimal f.tag) body (begins_reply f body more framed.lawful) (tag_read f)
-    (ap (λ (e : Result BodyLength ResponseFault). body_to e (body ++ more)) (extent f framed.lawful small) ∙ body_read f.size body more (f.status == 304) framed.size framed.bodiless short)
+    (ap (λ (e : Result BodyLength ResponseFault). body_result e (body ++ more)) (extent f framed.lawful small) ∙ body_read f.size body more (f.status == 304) framed.size framed.bodiless short)
     (ap (λ (n : ℕ). Ok (record { status = n; tag = option_map decimal f.tag; body = body })) (sym (code_is f framed.lawful)))
 
-pub read_back : (f : HeadFields) (body : List ℕ) → IsFramedBy f body → length body ≤ MAX_RESPONSE_BODY_BYTES → IsReadBack (sent f body)
+pub read_back : (f : HeadFields) (body : List ℕ) → IsFramedBy f body → length body ≤ MAX_RESPONSE_BODY_BYTES → IsReadBackReply (sent_reply f body)
 read_back f body framed short = record {
   fields = f;
   is_sent = refl;
@@ -218,18 +218,18 @@ read_back f body framed short = record {
   says = λ more. says_back f body more framed short;
 }
 
-too_long : (size : ℕ) (rest : List ℕ) → MAX_RESPONSE_BODY_BYTES < size → body_to (within_limit size) rest ≡ Err (TooLong size)
+too_long : (size : ℕ) (rest : List ℕ) → MAX_RESPONSE_BODY_BYTES < size → body_result (exact_body_length size) rest ≡ Err (TooLong size)
 too_long size rest long = rw (lt-ltb MAX_RESPONSE_BODY_BYTES size long) refl
 
 -- a body beyond the limit, which is no 304's
-pub longer : (f : HeadFields) (body more : List ℕ) → IsFramedBy f body → MAX_RESPONSE_BODY_BYTES < length body → length body < 2 ^ 64 → IsResponseOf (bytes_of (sent f body) ++ more) (Err (TooLong (length body)))
+pub longer : (f : HeadFields) (body more : List ℕ) → IsFramedBy f body → MAX_RESPONSE_BODY_BYTES < length body → length body < 2 ^ 64 → IsResponseOf (reply_bytes (sent_reply f body) ++ more) (Err (TooLong (length body)))
 longer f body more framed long countable = by (f.status == 304) refl
   where
-    by : (b : Bool) → (f.status == 304) ≡ b → IsResponseOf (bytes_of (sent f body) ++ more) (Err (TooLong (length body)))
+    by : (b : Bool) → (f.status == 304) ≡ b → IsResponseOf (reply_bytes (sent_reply f body) ++ more) (Err (TooLong (length body)))
     by true is = absurd (omega (arith, long, ap length (framed.bodiless is)))
     by false is =
         let small : f.size < 2 ^ 64 = omega (arith, framed.size, countable) in
-        let reads : extent_of (tree_of f) ≡ within_limit f.size = extent f framed.lawful small ∙ ap (λ (b : Bool). extent_for b f.size) is in
+        let reads : extent_of (tree_of f) ≡ exact_body_length f.size = extent f framed.lawful small ∙ ap (λ (b : Bool). extent_for b f.size) is in
         refused (tree_of f) (body ++ more) (TooLong f.size) (begins_reply f body more framed.lawful)
-        (ap (λ (e : Result BodyLength ResponseFault). body_to e (body ++ more)) reads ∙ too_long f.size (body ++ more) (omega (arith, framed.size, long)))
+        (ap (λ (e : Result BodyLength ResponseFault). body_result e (body ++ more)) reads ∙ too_long f.size (body ++ more) (omega (arith, framed.size, long)))
         (ap (λ (n : ℕ). Err (TooLong n)) (sym framed.size))

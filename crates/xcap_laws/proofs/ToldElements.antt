@@ -2,42 +2,42 @@
 use Rattle.std.proofs.Common.{◌≡◌, ℕ, ◌≤◌, Bool, true, false, cond, List, [], length, Option, None, Some, IsSomeAnd, option_map, Result, Ok, encode_utf8_all, slice_get, inl, inr, refl, sym, ap, ◌∙◌, subst, arith}
 use Rattle.xml_tree.specs.Tree.{Tree, at}
 use Rattle.xml_tree.specs.Print.{document_print}
-use Rattle.doc_names.specs.Equality.{same_id}
-use Rattle.doc_names.specs.Ids.{id_text}
+use Rattle.doc_names.specs.NameEquality.{same_id}
+use Rattle.doc_names.specs.DocIds.{id_text}
 use Rattle.doc_names.specs.Usages.{usage_of}
 use Rattle.doc_names.specs.declared.usages.Usage.{Usage}
 use Rattle.edit_ops.specs.Notes.{Note}
-use Rattle.edit_ops.specs.Operations.{weight}
+use Rattle.edit_ops.specs.DiffOperations.{weight}
 use Rattle.edit_rules.specs.KeyAddresses.{IsKeyAddressOf}
-use Rattle.element_watch.specs.Elements.{element_notice}
-use Rattle.element_watch.specs.SelectionHistory.{FindSince, Finds, notes_after}
-use Rattle.element_watch.specs.WatchedElements.{IsElementNotice, IsQuiet, IsStateOf, IsUntouched, SelectsSome, silent_notice}
+use Rattle.element_watch.specs.ElementNotices.{element_notice}
+use Rattle.element_watch.specs.SelectionHistory.{SelectsElementSince, SelectsElement, notes_after}
+use Rattle.element_watch.specs.WatchedElements.{IsElementNotice, HasNothingToReport, IsElementState, IsUntouched, SelectsSome, silent_notice}
 use Rattle.element_watch.specs.declared.element_states.ElementState.{ElementState}
 use Rattle.element_watch.specs.declared.element_states.ElementState.TheVariants.{Unchanged, Exists, Missing}
 use Rattle.element_watch.proofs.SinceTag.{find_unreported}
 use Rattle.node_select.specs.Selection.{SelectsPath}
-use Rattle.reply_text.specs.ReplyHeads.{plain}
+use Rattle.reply_text.specs.ReplyHeads.{plain_reply}
 use Rattle.request_checks.specs.Rights.{is_allowed}
 use Rattle.request_checks.specs.declared.method.Method.{Method}
 use Rattle.request_checks.specs.declared.method.Method.TheVariants.{Get}
-use Rattle.store_core.specs.Contents.{StoredDocument, StoreContents, stored_of}
-use Rattle.store_core.specs.DocumentChanges.{document_in, document_name, stored_name}
+use Rattle.store_core.specs.Contents.{StoredDocument, StoreContents, stored_document}
+use Rattle.store_core.specs.DocumentChanges.{find_document, document_id, stored_id}
 use Rattle.store_core.specs.Since.{ChangesSince, Gone, ReportedChanges, Unknown, since}
 use Rattle.store_core.specs.State.{Document, State, Version, versions}
-use Rattle.store_core.specs.ValidStates.{IsKept}
+use Rattle.store_core.specs.ValidStates.{IsValidDocument}
 use Rattle.xcap_uri.specs.declared.fault.UriFault.{UriFault}
 use Rattle.xcap_uri.specs.declared.target.Target.{Target}
 use Rattle.xcap_uri.specs.declared.target.Target.TheVariants.{ElementFeed}
 use Rattle.xcap_uri.proofs.TargetAnswers.{one_target}
-use Rattle.xcap_machine.specs.Answers.{Answer, unchanged}
-use Rattle.xcap_machine.specs.ElementFeeds.{ElementQuery, TellsElement}
-use Rattle.xcap_machine.specs.Requests.{ByMethod, ByTarget, auid_of, home_of}
-use Rattle.xcap_machine.specs.inner.Cases.{IsAnswered}
-use Rattle.xcap_machine.specs.inner.Records.{read_by, server_of}
+use Rattle.xcap_machine.specs.Answers.{Answer, reply_only}
+use Rattle.xcap_machine.specs.ElementFeeds.{ElementQuery, AnswersElementQuery}
+use Rattle.xcap_machine.specs.Requests.{AnswersByMethod, AnswersByTarget, auid_of, home_of}
+use Rattle.xcap_machine.specs.inner.AnswerCases.{IsAnswerByTarget}
+use Rattle.xcap_machine.specs.inner.RecordValues.{read_request, server_state}
 use Rattle.xcap_machine.proofs.Cases.{either}
 use Rattle.xcap_machine.proofs.OneVersion.{found_all, held_there, one_version}
-use Rattle.xcap_laws.specs.ElementReplies.{AnswersElementFeed, element_text}
-use Rattle.xcap_laws.specs.RetainedVersions.{changes_from, is_retainable}
+use Rattle.xcap_laws.specs.ElementReplies.{AnswersElementFeed, element_notice_text}
+use Rattle.xcap_laws.specs.RetainedVersions.{changes_after_version, is_retainable}
 use Rattle.xcap_laws.proofs.KnownChanges.{counted, known_exactly}
 
 -- the notes since the tag, the notice of them, and the reply's body
@@ -70,16 +70,16 @@ module _ (root : List ℕ) (c : StoreContents) (m : State) (query : ElementQuery
   abbrev from : Version
   from = h.from
 
-  known : since c query.watched.doc query.tag ≡ changes_from h.number d
+  known : since c query.watched.doc query.tag ≡ changes_after_version h.number d
   known = ap (since c query.watched.doc) (sym h.same_tag) ∙ known_exactly c m query.watched.doc d h.number from h.kept h.stands h.there h.is_version
 
-  kept_so : IsKept m.next d
-  kept_so = found_all (IsKept m.next) (λ x. same_id query.watched.doc x.id) m.documents d h.kept.documents h.there
+  kept_so : IsValidDocument m.next d
+  kept_so = found_all (IsValidDocument m.next) (λ x. same_id query.watched.doc x.id) m.documents d h.kept.documents h.there
 
-  held : document_in stored_name c.documents query.watched.doc ≡ Some (stored_of d)
-  held = ap (λ (x : StoreContents). document_in stored_name x.documents query.watched.doc) h.stands ∙ held_there m.documents query.watched.doc ∙ ap (option_map stored_of) h.there
+  held : find_document stored_id c.documents query.watched.doc ≡ Some (stored_document d)
+  held = ap (λ (x : StoreContents). find_document stored_id x.documents query.watched.doc) h.stands ∙ held_there m.documents query.watched.doc ∙ ap (option_map stored_document) h.there
 
-  by_changes : (s : ChangesSince) → since c query.watched.doc query.tag ≡ s → TellsElement (server_of root c) query s (read_by Get h.request) a → Told root c query a
+  by_changes : (s : ChangesSince) → since c query.watched.doc query.tag ≡ s → AnswersElementQuery (server_state root c) query s (read_request Get h.request) a → Told root c query a
   by_changes Gone e is = absurd (never_gone h.number d (is_retainable weight (notes_after h.number (versions d))) (notes_after h.number (versions d)) (sym known ∙ e))
   by_changes Unknown e is = absurd (let never : 410 ≡ 200 = sym (ap (λ (x : Answer). x.reply.status) is) ∙ h.ok in omega (arith, never))
   by_changes (ReportedChanges ns) e is = record { notes = ns; since_tag = e; notice = is.0; is_notice = is.1; body = ap (λ (x : Answer). x.reply.body) is.2 }
@@ -87,36 +87,36 @@ module _ (root : List ℕ) (c : StoreContents) (m : State) (query : ElementQuery
   abbrev target : Target
   target = ElementFeed query.tag query.watched.doc query.watched.selector query.watched.raw
 
-  by_target : ByTarget (server_of root c) target Get h.request a → Told root c query a
+  by_target : AnswersByTarget (server_state root c) target Get h.request a → Told root c query a
   by_target is =
-      either (is_allowed false (auid_of target) (home_of target) h.request.fields) (ByMethod (server_of root c) target Get h.request a) (a ≡ unchanged (plain 403 h.request.closes))
+      either (is_allowed false (auid_of target) (home_of target) h.request.fields) (AnswersByMethod (server_state root c) target Get h.request a) (a ≡ reply_only (plain_reply 403 h.request.closes))
       (λ _. by_changes (since c query.watched.doc query.tag) refl) (λ _ s. absurd (let never : 403 ≡ 200 = sym (ap (λ (x : Answer). x.reply.status) s) ∙ h.ok in omega (arith, never))) is
 
   told : Told root c query a
   told =
       let same : h.answers.0 ≡ Ok target = one_target root h.request.target h.answers.0 (Ok target) h.answers.1 h.target in
-      let here : IsAnswered root c (Ok target) h.request a = subst (λ (read : Result Target UriFault). IsAnswered root c read h.request a) same h.answers.2 in
-      by_target (subst (λ (x : Method). ByTarget (server_of root c) target x h.request a) h.reads here)
+      let here : IsAnswerByTarget root c (Ok target) h.request a = subst (λ (read : Result Target UriFault). IsAnswerByTarget root c read h.request a) same h.answers.2 in
+      by_target (subst (λ (x : Method). AnswersByTarget (server_state root c) target x h.request a) h.reads here)
 
-  stored_so : told.is_notice.held ≡ stored_of d
-  stored_so = let both : Some told.is_notice.held ≡ Some (stored_of d) = sym told.is_notice.there ∙ held in cc
+  stored_so : told.is_notice.held ≡ stored_document d
+  stored_so = let both : Some told.is_notice.held ≡ Some (stored_document d) = sym told.is_notice.there ∙ held in cc
 
-  state_so : IsStateOf (usage_of query.watched.doc.auid) d.now.tree query.watched.selector told.notes told.is_notice.state
-  state_so = subst (λ (x : StoredDocument). IsStateOf (usage_of query.watched.doc.auid) x.tree query.watched.selector told.notes told.is_notice.state) stored_so told.is_notice.is_state
+  state_so : IsElementState (usage_of query.watched.doc.auid) d.now.tree query.watched.selector told.notes told.is_notice.state
+  state_so = subst (λ (x : StoredDocument). IsElementState (usage_of query.watched.doc.auid) x.tree query.watched.selector told.notes told.is_notice.state) stored_so told.is_notice.is_state
 
-  text_so : (state : ElementState) → told.is_notice.state ≡ state → a.reply.body ≡ element_text root query state
+  text_so : (state : ElementState) → told.is_notice.state ≡ state → a.reply.body ≡ element_notice_text root query state
   text_so state same = told.body ∙ ap (λ (t : Tree). encode_utf8_all (document_print t)) (told.is_notice.told ∙ ap (element_notice root (id_text query.watched.doc) query.watched.raw) same)
 
   -- ---- an element that differs
 
   module _ (u : Usage) (p : List ℕ) (usage : usage_of query.watched.doc.auid ≡ Some u) (selects : SelectsPath query.watched.selector.steps d.now.tree p) (by_keys : IsKeyAddressOf u d.now.tree query.watched.selector p)
       (differs : (q : List ℕ) → SelectsPath query.watched.selector.steps from.tree q → at q from.tree ≡ at p d.now.tree → ⊥) where
-    found_same : FindSince m query.watched.doc query.tag query.watched.selector.steps p → ⊥
+    found_same : SelectsElementSince m query.watched.doc query.tag query.watched.selector.steps p → ⊥
     found_same f =
-        let doc : f.document ≡ d = one_document (document_in document_name m.documents query.watched.doc) d f.document h.there f.there in
+        let doc : f.document ≡ d = one_document (find_document document_id m.documents query.watched.doc) d f.document h.there f.there in
         let version : f.from ≡ from =
         one_version d.now d.earlier f.number h.number f.from from kept_so.follows (ap (λ (x : Document). slice_get (versions x) f.number) (sym doc) ∙ f.is_version) h.is_version (f.same_tag ∙ sym h.same_tag) in
-        let e = some_at (at p f.document.now.tree) (λ e. (k : ℕ) (v : Version) → k ≤ f.number → slice_get (versions f.document) k ≡ Some v → Finds query.watched.selector.steps e v.tree (notes_after k (versions f.document)) p) f.finds in
+        let e = some_at (at p f.document.now.tree) (λ e. (k : ℕ) (v : Version) → k ≤ f.number → slice_get (versions f.document) k ≡ Some v → SelectsElement query.watched.selector.steps e v.tree (notes_after k (versions f.document)) p) f.finds in
         let finds = e.2 f.number f.from (omega arith) f.is_version in
         differs finds.path (subst (λ (x : Version). SelectsPath query.watched.selector.steps x.tree finds.path) version finds.selects)
         (ap (λ (x : Version). at finds.path x.tree) (sym version) ∙ finds.there ∙ sym e.1 ∙ ap (λ (x : Document). at p x.now.tree) doc)
@@ -125,15 +125,15 @@ module _ (root : List ℕ) (c : StoreContents) (m : State) (query : ElementQuery
     unchanged_never same =
         let silent : told.notice ≡ silent_notice root = told.is_notice.told ∙ ap (element_notice root (id_text query.watched.doc) query.watched.raw) same in
         found_same
-        (find_unreported root c m query.watched.doc query.tag told.notes (stored_of d) u query.watched.selector query.watched.raw p h.kept h.stands told.since_tag held usage
+        (find_unreported root c m query.watched.doc query.tag told.notes (stored_document d) u query.watched.selector query.watched.raw p h.kept h.stands told.since_tag held usage
         (subst (IsElementNotice root query.watched c told.notes) silent told.is_notice) selects by_keys)
 
-    by_state : (state : ElementState) → told.is_notice.state ≡ state → IsStateOf (usage_of query.watched.doc.auid) d.now.tree query.watched.selector told.notes state → a.reply.body ≡ element_text root query Exists
+    by_state : (state : ElementState) → told.is_notice.state ≡ state → IsElementState (usage_of query.watched.doc.auid) d.now.tree query.watched.selector told.notes state → a.reply.body ≡ element_notice_text root query Exists
     by_state Unchanged same is = absurd (unchanged_never same)
     by_state Exists same is = text_so Exists same
     by_state Missing same is = absurd (is.1 (p, selects))
 
-    pub change_told : a.reply.body ≡ element_text root query Exists
+    pub change_told : a.reply.body ≡ element_notice_text root query Exists
     change_told = by_state told.is_notice.state refl state_so
 
   -- ---- an element that is gone
@@ -150,14 +150,14 @@ module _ (root : List ℕ) (c : StoreContents) (m : State) (query : ElementQuery
     not_untouched None is = is
     not_untouched (Some u) is = none (is.0, is.1.selects)
 
-    not_quiet : IsQuiet (usage_of query.watched.doc.auid) d.now.tree query.watched.selector told.notes → ⊥
+    not_quiet : HasNothingToReport (usage_of query.watched.doc.auid) d.now.tree query.watched.selector told.notes → ⊥
     not_quiet (inl empty) = none (subst (λ (x : Version). SelectsSome query.watched.selector x.tree) (sym (same_versions empty)) some)
     not_quiet (inr untouched) = not_untouched (usage_of query.watched.doc.auid) untouched
 
-    by_missing : (state : ElementState) → told.is_notice.state ≡ state → IsStateOf (usage_of query.watched.doc.auid) d.now.tree query.watched.selector told.notes state → a.reply.body ≡ element_text root query Missing
+    by_missing : (state : ElementState) → told.is_notice.state ≡ state → IsElementState (usage_of query.watched.doc.auid) d.now.tree query.watched.selector told.notes state → a.reply.body ≡ element_notice_text root query Missing
     by_missing Unchanged same is = absurd (not_quiet is)
     by_missing Exists same is = absurd (none is.1)
     by_missing Missing same is = text_so Missing same
 
-    pub removal_told : a.reply.body ≡ element_text root query Missing
+    pub removal_told : a.reply.body ≡ element_notice_text root query Missing
     removal_told = by_missing told.is_notice.state refl state_so

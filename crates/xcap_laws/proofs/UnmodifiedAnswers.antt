@@ -4,19 +4,19 @@ use Rattle.std.specs.List.{list_any}
 use Rattle.std.specs.Option.{option_map_or}
 use Rattle.std.specs.Prelude.{if◌then◌else◌}
 use Rattle.http_wire.specs.declared.request.Request.{Request}
-use Rattle.request_checks.specs.Conditions.{by_verdict}
-use Rattle.request_checks.specs.Fields.{ConditionsAnswer, FieldValue, Missing, Preconditions, HasFieldValue, Star, Tags}
+use Rattle.request_checks.specs.Conditions.{outcome_of_verdict}
+use Rattle.request_checks.specs.Fields.{IsConditionsReading, FieldValue, Missing, Preconditions, HasFieldValue, Star, Tags}
 use Rattle.request_checks.specs.Rights.{fields_named}
-use Rattle.request_checks.specs.Verdicts.{if_match_holds, if_none_match_holds, is_own, verdict_of}
+use Rattle.request_checks.specs.Verdicts.{if_match_holds, if_none_match_holds, matches_etag_weakly, verdict_of}
 use Rattle.request_checks.specs.declared.conditions.Outcome.TheVariants.{Unreadable, Go, NotModified, Failed}
 use Rattle.request_checks.specs.declared.verdicts.Verdict.TheVariants as verdicts
 use Rattle.store_core.specs.Contents.{StoreContents as Content}
 use Rattle.xcap_laws.proofs.AnswerKinds.{Kind, kind_of, shows, unmodified, untagged, writes}
-use Rattle.xcap_laws.specs.Unmodified.{IsUnmodified, NamesTag}
+use Rattle.xcap_laws.specs.NotModifiedReplies.{IsUnmodified, FieldNamesTag}
 use Rattle.xcap_machine.specs.Answers.{Answer}
 use Rattle.xcap_machine.specs.Requests.{IsAnswer}
 
-second_fails : (x y : Bool) → NotModified ≡ by_verdict (if not x then verdicts.Failed else if y then verdicts.Go else if true then verdicts.Same else verdicts.Failed) → y ≡ false
+second_fails : (x y : Bool) → NotModified ≡ outcome_of_verdict (if not x then verdicts.Failed else if y then verdicts.Go else if true then verdicts.Same else verdicts.Failed) → y ≡ false
 second_fails true true h = let z : NotModified ≡ Go = h in cc
 second_fails true false h = refl
 second_fails false y h = let z : NotModified ≡ Failed = h in cc
@@ -25,19 +25,19 @@ is_listed : (b : Bool) → not b ≡ false → b ≡ true
 is_listed true h = refl
 is_listed false h = let z : true ≡ false = h in cc
 
-named : (tag : ℕ) (value : FieldValue) → if_none_match_holds (Some tag) true value ≡ false → NamesTag tag value
+named : (tag : ℕ) (value : FieldValue) → if_none_match_holds (Some tag) true value ≡ false → FieldNamesTag tag value
 named tag Missing h = let z : true ≡ false = h in absurd cc
 named tag Star h = tt
-named tag (Tags tags) h = is_listed (list_any (is_own (Some tag)) tags) h
+named tag (Tags tags) h = is_listed (list_any (matches_etag_weakly (Some tag)) tags) h
 
 -- what If-None-Match says names the tag
 record SaysTag (request : Request) (tag : ℕ) : Type 0 where
   value : FieldValue
   says : HasFieldValue (fields_named (codes "if-none-match") request.fields) value
-  names : NamesTag tag value
+  names : FieldNamesTag tag value
 
-says_tag : (request : Request) (tag : ℕ) (said : Option Preconditions) → ConditionsAnswer (fields_named (codes "if-match") request.fields) (fields_named (codes "if-none-match") request.fields) said
-    → NotModified ≡ option_map_or (λ conditions. by_verdict (verdict_of conditions (Some tag) true true)) said Unreadable → SaysTag request tag
+says_tag : (request : Request) (tag : ℕ) (said : Option Preconditions) → IsConditionsReading (fields_named (codes "if-match") request.fields) (fields_named (codes "if-none-match") request.fields) said
+    → NotModified ≡ option_map_or (λ conditions. outcome_of_verdict (verdict_of conditions (Some tag) true true)) said Unreadable → SaysTag request tag
 says_tag request tag None reads h = let z : NotModified ≡ Unreadable = h in absurd cc
 says_tag request tag (Some s) reads h = record {
   value = s.if_none_match;

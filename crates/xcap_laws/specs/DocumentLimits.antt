@@ -4,8 +4,8 @@ use Rattle.std.specs.List.{AllByRecursion}
 use Rattle.xml_tree.specs.Print.{document_print}
 use Rattle.xml_tree.specs.Tree.{Tree, height}
 use Rattle.edit_ops.specs.Notes.{Note}
-use Rattle.edit_ops.specs.Operations.{weight}
-use Rattle.store_core.specs.Contents.{stock_of, stored_of}
+use Rattle.edit_ops.specs.DiffOperations.{weight}
+use Rattle.store_core.specs.Contents.{contents_of, stored_document}
 use Rattle.store_core.specs.State.{Document, State, Version, notes, versions}
 
 -- the number of bytes of a printed document: the length of the bytes themselves, which
@@ -14,26 +14,26 @@ abbrev pub printed_len : Tree → ℕ
 printed_len t = length (encode_utf8_all (document_print t))
 
 -- a version of a document: its levels, its bytes, and its tag
-pub record IsWithin (v : Version) : Type 0 where
+pub record IsVersionWithinLimits (v : Version) : Type 0 where
   pub levels : height v.tree ≤ 64
   pub bytes : printed_len v.tree ≤ 262144
   pub tag : (1 ≤ v.tag) × (v.tag ≤ 18446744073709551615)
 
 -- the retained change records, of all those of a document: the newest ones, and at least the
 -- newest; at most 64; and their operations have at most 65,536 bytes together, unless it is one
-pub record AreFew (all retained : List Note) : Type 0 where
+pub record AreRetainedRecords (all retained : List Note) : Type 0 where
   pub newest : (dropped : List Note) × (all ≡ dropped ++ retained)
   pub some : retained ≡ [] → all ≡ []
   pub few : length retained ≤ 64
   pub light : (sum_by weight retained ≤ 65536) ⊎ (length retained ≡ 1)
 
 -- a document: each of its versions, and the change records that the store has of it
-pub record IsDocumentWithin (d : Document) : Type 0 where
-  pub versions_within : AllByRecursion IsWithin (versions d)
-  pub records : AreFew (notes d) (stored_of d).notes
+pub record IsDocumentWithinLimits (d : Document) : Type 0 where
+  pub versions_within : AllByRecursion IsVersionWithinLimits (versions d)
+  pub records : AreRetainedRecords (notes d) (stored_document d).notes
 
 -- a state: each document, their number, and the bytes of their present versions together
 pub record KeepsLimits (m : State) : Type 0 where
-  pub each : AllByRecursion IsDocumentWithin m.documents
+  pub each : AllByRecursion IsDocumentWithinLimits m.documents
   pub few : length m.documents ≤ 1000
-  pub room : sum_by (λ h. printed_len h.tree) (stock_of m).documents ≤ 33554432
+  pub room : sum_by (λ h. printed_len h.tree) (contents_of m).documents ≤ 33554432

@@ -6,29 +6,29 @@ ghost use Rattle.http_wire.specs.declared.request.Request.{Request};
 ghost use Rattle.reply_text.specs.ReplyHeads.{SentReply};
 ghost use Rattle.request_checks.specs.Methods.{is_reading, method_of};
 ghost use Rattle.store_core.specs.Contents.{StoreContents};
-ghost use Rattle.store_core.specs.DocumentChanges.{document_name, stored_name};
+ghost use Rattle.store_core.specs.DocumentChanges.{document_id, stored_id};
 ghost use Rattle.store_core.specs.State.{State};
-ghost use Rattle.xcap_uri.specs.Targets.{TargetResult};
+ghost use Rattle.xcap_uri.specs.Targets.{IsTargetResult};
 ghost use Rattle.xcap_uri.specs.declared.target.Target.{Target};
-ghost use Rattle.xcap_machine.specs.Answers.{Answer, unchanged};
-ghost use Rattle.xcap_machine.specs.Laws.{ChangesNothing};
-ghost use Rattle.xcap_machine.specs.Machine.{Does, Step};
+ghost use Rattle.xcap_machine.specs.Answers.{Answer, reply_only};
+ghost use Rattle.xcap_machine.specs.StepOutcomes.{ChangesNothing};
+ghost use Rattle.xcap_machine.specs.Machine.{ContentStep, Step};
 ghost use Rattle.xcap_machine.specs.Requests.{IsAnswer, home_of};
-ghost use Rattle.xcap_laws.specs.Access.{AreAlikeUnder, ChangesOwnHome, ComesFromNoOther};
-ghost use Rattle.xcap_laws.specs.Access.{GlobalAlike, IsForbidden, forbidden_reply};
+ghost use Rattle.xcap_laws.specs.HomeAccess.{AgreesUnderHome, ChangesOwnHome, IsFromNoOtherUser};
+ghost use Rattle.xcap_laws.specs.HomeAccess.{AgreesOnGlobal, IsForbiddenRequest, forbidden_reply};
 
 /// A law: a request that its user isn't allowed to make gets an answer that its target alone
 /// decides, the same whatever is stored; and its step changes nothing (RFC 4825, section 5.7).
 pub fn strangers_learn_nothing()
     ensures answer_is_fixed { (root : List ℕ) (c : StoreContents) (request : Request)
-        (target : Target) (a : Answer) → IsForbidden root request target
-        → IsAnswer root c request a → a ≡ unchanged (forbidden_reply target request) }
+        (target : Target) (a : Answer) → IsForbiddenRequest root request target
+        → IsAnswer root c request a → a ≡ reply_only (forbidden_reply target request) }
     ensures same_answer { (root : List ℕ) (c d : StoreContents) (request : Request)
-        (target : Target) (a b : Answer) → IsForbidden root request target
+        (target : Target) (a b : Answer) → IsForbiddenRequest root request target
         → IsAnswer root c request a → IsAnswer root d request b → a ≡ b }
     ensures changes_nothing { (root : List ℕ) (m next : State) (request : Request)
         (target : Target) (reply : SentReply) (edit : Option Edit)
-        → IsForbidden root request target → Step root m request reply next edit
+        → IsForbiddenRequest root request target → Step root m request reply next edit
         → ChangesNothing m next edit }
 {}
 
@@ -37,11 +37,11 @@ pub fn strangers_learn_nothing()
 /// records (RFC 4825, section 5.7). Only the next number is common to all homes.
 pub fn users_change_their_own_home()
     ensures own_home { (root : List ℕ) (c next : StoreContents) (request : Request)
-        (reply : SentReply) (edit : Option Edit) → Does root c request reply next edit
-        → ChangesOwnHome stored_name request edit c.documents next.documents }
+        (reply : SentReply) (edit : Option Edit) → ContentStep root c request reply next edit
+        → ChangesOwnHome stored_id request edit c.documents next.documents }
     ensures own_versions { (root : List ℕ) (m next : State) (request : Request)
         (reply : SentReply) (edit : Option Edit) → Step root m request reply next edit
-        → ChangesOwnHome document_name request edit m.documents next.documents }
+        → ChangesOwnHome document_id request edit m.documents next.documents }
 {}
 
 /// A law: the answer to a request that reads depends on the home of its target alone: it is the
@@ -50,11 +50,11 @@ pub fn users_change_their_own_home()
 /// documents show in the index of services and its tag alone.
 pub fn users_read_their_own_home()
     ensures same_answer { (root : List ℕ) (c d : StoreContents) (request : Request)
-        (target : Target) (a b : Answer) → TargetResult root request.target (Ok target)
-        → is_reading (method_of request.method) ≡ true → AreAlikeUnder (home_of target) c d
+        (target : Target) (a b : Answer) → IsTargetResult root request.target (Ok target)
+        → is_reading (method_of request.method) ≡ true → AgreesUnderHome (home_of target) c d
         → IsAnswer root c request a → IsAnswer root d request b → a ≡ b }
     ensures own_home_and_global { (root : List ℕ) (c d : StoreContents) (request : Request)
-        (xui : List ℕ) (a b : Answer) → ComesFromNoOther xui request
-        → is_reading (method_of request.method) ≡ true → AreAlikeUnder (User xui) c d
-        → GlobalAlike c d → IsAnswer root c request a → IsAnswer root d request b → a ≡ b }
+        (xui : List ℕ) (a b : Answer) → IsFromNoOtherUser xui request
+        → is_reading (method_of request.method) ≡ true → AgreesUnderHome (User xui) c d
+        → AgreesOnGlobal c d → IsAnswer root c request a → IsAnswer root d request b → a ≡ b }
 {}

@@ -1,18 +1,18 @@
 //! Laws of the machine's changes, each the contract of a function that does nothing.
 ghost use Rattle.std.specs.Prelude.{◌≡◌, List, ℕ, Some, Ok};
 ghost use Rattle.http_wire.specs.declared.request.Request.{Request};
-ghost use Rattle.edit_ops.specs.MovedPaths.{KeepsTheOthers};
+ghost use Rattle.edit_ops.specs.MovedPaths.{KeepsOtherElements};
 ghost use Rattle.edit_ops.specs.declared.edit.Edit.{Edit};
 ghost use Rattle.reply_text.specs.ReplyHeads.{SentReply};
 ghost use Rattle.store_core.specs.Contents.{Represents, StoredDocument, StoreContents};
-ghost use Rattle.store_core.specs.DocumentChanges.{document_in, document_name, stored_name};
+ghost use Rattle.store_core.specs.DocumentChanges.{find_document, document_id, stored_id};
 ghost use Rattle.store_core.specs.DocumentChanges.{without_document};
 ghost use Rattle.store_core.specs.State.{State};
 ghost use Rattle.store_core.specs.ValidStates.{IsValidState};
-ghost use Rattle.xcap_uri.specs.Targets.{TargetResult};
+ghost use Rattle.xcap_uri.specs.Targets.{IsTargetResult};
 ghost use Rattle.xcap_uri.specs.declared.target.Target.{Target};
 ghost use Rattle.xcap_laws.specs.AddressedDocuments.{IsTargetIn};
-ghost use Rattle.xcap_machine.specs.Machine.{Does, Step};
+ghost use Rattle.xcap_machine.specs.Machine.{ContentStep, Step};
 
 /// A law: a step changes no document but the one that its address leads into: the address means
 /// that document or a node in it. It leaves all other documents unchanged, with all their
@@ -21,17 +21,17 @@ ghost use Rattle.xcap_machine.specs.Machine.{Does, Step};
 /// moved by the insertion or the removal alone (RFC 4825, sections 8.2.3, 8.2.4 and 8.4).
 pub fn only_the_addressed_changes()
     ensures addressed_document { (root : List ℕ) (c next : StoreContents) (request : Request)
-        (reply : SentReply) (e : Edit) → Does root c request reply next (Some e)
-        → (target : Target) × TargetResult root request.target (Ok target)
+        (reply : SentReply) (e : Edit) → ContentStep root c request reply next (Some e)
+        → (target : Target) × IsTargetResult root request.target (Ok target)
         × IsTargetIn e.doc target }
     ensures other_documents { (root : List ℕ) (m next : State) (request : Request)
         (reply : SentReply) (e : Edit) → Step root m request reply next (Some e)
-        → without_document document_name next.documents e.doc
-        ≡ without_document document_name m.documents e.doc }
+        → without_document document_id next.documents e.doc
+        ≡ without_document document_id m.documents e.doc }
     ensures other_elements { (root : List ℕ) (c next : StoreContents) (request : Request)
         (reply : SentReply) (e : Edit) (m : State) → IsValidState m → Represents c m
-        → Does root c request reply next (Some e) → (before after : StoredDocument)
-        → document_in stored_name c.documents e.doc ≡ Some before
-        → document_in stored_name next.documents e.doc ≡ Some after
-        → KeepsTheOthers before.tree e.note.change after.tree }
+        → ContentStep root c request reply next (Some e) → (before after : StoredDocument)
+        → find_document stored_id c.documents e.doc ≡ Some before
+        → find_document stored_id next.documents e.doc ≡ Some after
+        → KeepsOtherElements before.tree e.note.change after.tree }
 {}

@@ -6,7 +6,7 @@ ghost use Rattle.doc_names.specs.declared.usages.Usage.{Usage};
 ghost use Rattle.doc_names.specs.declared.doc_id.DocId.{DocId};
 ghost use Rattle.http_wire.specs.declared.request.Request.{Request};
 ghost use Rattle.edit_ops.specs.Notes.{Note};
-ghost use Rattle.edit_ops.specs.Operations.{weight};
+ghost use Rattle.edit_ops.specs.DiffOperations.{weight};
 ghost use Rattle.edit_rules.specs.KeyAddresses.{IsKeyAddressOf};
 ghost use Rattle.node_select.specs.Selection.{SelectsPath};
 ghost use Rattle.element_watch.specs.WatchedElements.{SelectsSome};
@@ -15,23 +15,23 @@ ghost use Rattle.element_watch.specs.declared.element_states.ElementState.TheVar
 ghost use Rattle.element_watch.specs.SelectionHistory.{notes_after};
 ghost use Rattle.request_checks.specs.Methods.{method_of};
 ghost use Rattle.request_checks.specs.declared.method.Method.TheVariants.{Get};
-ghost use Rattle.store_core.specs.Contents.{Represents, StoreContents, stock_of};
-ghost use Rattle.store_core.specs.DocumentChanges.{document_in, document_name};
+ghost use Rattle.store_core.specs.Contents.{Represents, StoreContents, contents_of};
+ghost use Rattle.store_core.specs.DocumentChanges.{find_document, document_id};
 ghost use Rattle.store_core.specs.declared.limits.TheConstants.{MAX_NOTES, MAX_WEIGHT};
 ghost use Rattle.store_core.specs.Since.{ReportedChanges, since};
 ghost use Rattle.store_core.specs.State.{Document, State, Version, versions};
-ghost use Rattle.store_core.specs.ValidStates.{IsUserDocument, IsValidState};
-ghost use Rattle.xcap_uri.specs.Targets.{TargetResult};
+ghost use Rattle.store_core.specs.ValidStates.{IsUserHome, IsValidState};
+ghost use Rattle.xcap_uri.specs.Targets.{IsTargetResult};
 ghost use Rattle.xcap_uri.specs.declared.target.Mode.{Mode};
 ghost use Rattle.xcap_uri.specs.declared.target.Target.TheVariants.{Feed};
 ghost use Rattle.xcap_uri.specs.declared.target.Target.TheVariants.{Document as a_document};
 ghost use Rattle.xcap_machine.specs.Answers.{Answer};
 ghost use Rattle.xcap_machine.specs.ElementFeeds.{ElementQuery};
 ghost use Rattle.xcap_machine.specs.Requests.{IsAnswer};
-ghost use Rattle.xcap_machine.specs.Versions.{ComesTo, HasVersion};
-ghost use Rattle.xcap_laws.specs.ElementReplies.{AnswersElementFeed, element_text};
+ghost use Rattle.xcap_machine.specs.ReachedStates.{ReachesByValidSteps, HasVersion};
+ghost use Rattle.xcap_laws.specs.ElementReplies.{AnswersElementFeed, element_notice_text};
 ghost use Rattle.xcap_laws.specs.FetchedVersions.{SendsVersion};
-ghost use Rattle.xcap_laws.specs.RetainedVersions.{changes_from};
+ghost use Rattle.xcap_laws.specs.RetainedVersions.{changes_after_version};
 
 /// A law: the changes since a version of a stored document are known exactly where they are one at
 /// most, or at most `MAX_NOTES` that together weigh at most `MAX_WEIGHT`; and then they are the
@@ -39,23 +39,23 @@ ghost use Rattle.xcap_laws.specs.RetainedVersions.{changes_from};
 pub fn near_versions_are_known()
     ensures known_exactly { (c : StoreContents) (m : State) (id : DocId) (d : Document)
         (number : ℕ) (v : Version) → IsValidState m → Represents c m
-        → document_in document_name m.documents id ≡ Some d
+        → find_document document_id m.documents id ≡ Some d
         → slice_get (versions d) number ≡ Some v
-        → since c id v.tag ≡ changes_from number d }
+        → since c id v.tag ≡ changes_after_version number d }
     ensures near_is_known { (c : StoreContents) (m : State) (id : DocId) (d : Document)
         (number : ℕ) (v : Version) → IsValidState m → Represents c m
-        → document_in document_name m.documents id ≡ Some d
+        → find_document document_id m.documents id ≡ Some d
         → slice_get (versions d) number ≡ Some v → number ≤ MAX_NOTES
         → sum_by weight (notes_after number (versions d)) ≤ MAX_WEIGHT
         → since c id v.tag ≡ ReportedChanges (notes_after number (versions d)) }
     ensures never_410 { (root : List ℕ) (c : StoreContents) (m : State) (request : Request)
         (a : Answer) (mode : Mode) (id : DocId) (d : Document) (number : ℕ) (v : Version)
         → IsValidState m → Represents c m
-        → document_in document_name m.documents id ≡ Some d
+        → find_document document_id m.documents id ≡ Some d
         → slice_get (versions d) number ≡ Some v → number ≤ MAX_NOTES
         → sum_by weight (notes_after number (versions d)) ≤ MAX_WEIGHT
         → IsAnswer root c request a
-        → TargetResult root request.target (Ok (Feed mode v.tag id)) → a.reply.status ≢ 410 }
+        → IsTargetResult root request.target (Ok (Feed mode v.tag id)) → a.reply.status ≢ 410 }
 {}
 
 /// A law: the reply 200 to a GET of a stored document sends a version of it: the current one, by
@@ -64,7 +64,7 @@ pub fn near_versions_are_known()
 pub fn what_is_fetched_is_a_version()
     ensures sends_version { (root : List ℕ) (c : StoreContents) (m : State) (request : Request)
         (a : Answer) (id : DocId) → IsValidState m → Represents c m → IsAnswer root c request a
-        → TargetResult root request.target (Ok (a_document id)) → IsUserDocument id.home
+        → IsTargetResult root request.target (Ok (a_document id)) → IsUserHome id.home
         → method_of request.method ≡ Get → a.reply.status ≡ 200 → SendsVersion c m id a.reply }
 {}
 
@@ -74,12 +74,12 @@ pub fn what_is_fetched_is_a_version()
 /// the version between, which are known too: none is lost, repeated or merged.
 pub fn changes_are_told_once()
     ensures told_once { (root : List ℕ) (m n : State) (id : DocId) (d : Document) (number : ℕ)
-        (u : Version) (earlier all : List Note) → IsValidState m → ComesTo root m n
-        → document_in document_name m.documents id ≡ Some d
+        (u : Version) (earlier all : List Note) → IsValidState m → ReachesByValidSteps root m n
+        → find_document document_id m.documents id ≡ Some d
         → slice_get (versions d) number ≡ Some u → HasVersion n id d.now
-        → since (stock_of m) id u.tag ≡ ReportedChanges earlier
-        → since (stock_of n) id u.tag ≡ ReportedChanges all
-        → (later : List Note) × (since (stock_of n) id d.now.tag ≡ ReportedChanges later)
+        → since (contents_of m) id u.tag ≡ ReportedChanges earlier
+        → since (contents_of n) id u.tag ≡ ReportedChanges all
+        → (later : List Note) × (since (contents_of n) id d.now.tag ≡ ReportedChanges later)
         × (all ≡ earlier ++ later) }
 {}
 
@@ -95,10 +95,10 @@ pub fn element_notices_miss_nothing()
         → IsKeyAddressOf u feed.document.now.tree query.watched.selector p
         → ((q : List ℕ) → SelectsPath query.watched.selector.steps feed.from.tree q
         → at q feed.from.tree ≡ at p feed.document.now.tree → ⊥)
-        → a.reply.body ≡ element_text root query Exists }
+        → a.reply.body ≡ element_notice_text root query Exists }
     ensures removal_is_told { (root : List ℕ) (c : StoreContents) (m : State)
         (query : ElementQuery) (a : Answer) → (feed : AnswersElementFeed root c m query a)
         → (SelectsSome query.watched.selector feed.document.now.tree → ⊥)
         → SelectsSome query.watched.selector feed.from.tree
-        → a.reply.body ≡ element_text root query Missing }
+        → a.reply.body ≡ element_notice_text root query Missing }
 {}

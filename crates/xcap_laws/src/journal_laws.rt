@@ -2,19 +2,20 @@
 ghost use Rattle.std.specs.Prelude.{◌≡◌, ◌≢◌, ℕ, List};
 ghost use Rattle.http_wire.specs.declared.request.Request.{Request};
 ghost use Rattle.http_serve.specs.declared.accept_loop.ServeSummary.{ServeSummary};
-ghost use Rattle.xcap_io.specs.Causes.{StreamState};
-ghost use Rattle.xcap_io.specs.StreamTraffic.{Gave, Took};
-ghost use Rattle.edit_journal.specs.Journals.{IsFirstOf};
+ghost use Rattle.xcap_io.specs.StreamStates.{StreamState};
+ghost use Rattle.xcap_io.specs.StreamTraffic.{GivesBytes, TakesBytes};
+ghost use Rattle.edit_journal.specs.Journals.{IsPrefixOf};
 ghost use Rattle.store_core.specs.State.{State};
-ghost use Rattle.xcap_app.specs.KeepCommand.{KeepsCommand, KeptSummary, OldJournal, ReadsJournal};
-ghost use Rattle.xcap_app.specs.KeepCommand.{none_failed};
+ghost use Rattle.xcap_app.specs.KeepCommand.{KeepsCommand, KeepSummary, OldJournal, ReadsJournal};
+ghost use Rattle.xcap_app.specs.KeepCommand.{summary_without_failures};
 ghost use Rattle.xcap_app.specs.RunStates.{KeepState};
-ghost use Rattle.xcap_app.specs.Serves.{ServiceArguments};
+ghost use Rattle.xcap_app.specs.ServeCommand.{ServiceArguments};
 ghost use Rattle.xcap_app.specs.declared.exit.Exit.{Exit};
 ghost use Rattle.xcap_app.specs.declared.exit.Exit.TheVariants.{BadJournal};
 ghost use Rattle.xcap_app.specs.declared.journal_refusal.JournalRefusal.TheVariants as refusals;
-ghost use Rattle.xcap_machine.specs.Versions.{ComesTo};
-ghost use Rattle.xcap_laws.specs.WrittenJournals.{ComesBack, IsWrittenJournal, ServesAfter};
+ghost use Rattle.xcap_machine.specs.ReachedStates.{ReachesByValidSteps};
+ghost use Rattle.xcap_laws.specs.WrittenJournals.{RestartsFromJournal, IsWrittenJournal};
+ghost use Rattle.xcap_laws.specs.WrittenJournals.{ServesAfterJournal};
 
 use edit_ops::Edit;
 use watchers::Watchers;
@@ -29,25 +30,25 @@ use watchers::Watchers;
 pub fn keep_after_keep<W: Watchers<Edit>>()
     ensures writes_records { (arguments : ServiceArguments) (exit : Exit) (old new : KeepState W)
         (bytes : List ℕ) → KeepsCommand W.keeps arguments exit old new
-        → Took old.output.taken new.output.taken bytes
+        → TakesBytes old.output.taken new.output.taken bytes
         → (all : List Request) × (last : State)
         × IsWrittenJournal arguments.root bytes all last }
     ensures never_refused { (arguments : ServiceArguments) (exit : Exit) (old new : KeepState W)
         (written bytes : List ℕ) (all : List Request) (last : State)
-        → IsWrittenJournal arguments.root written all last → IsFirstOf bytes written
-        → Gave old.input.inward new.input.inward bytes
+        → IsWrittenJournal arguments.root written all last → IsPrefixOf bytes written
+        → GivesBytes old.input.inward new.input.inward bytes
         → KeepsCommand W.keeps arguments exit old new
         → ((place : ℕ) → exit ≢ BadJournal (refusals.Damaged place))
         × ((number : ℕ) → exit ≢ BadJournal (refusals.Refused number)) }
     ensures comes_back { (root written : List ℕ) (journal : OldJournal) (all : List Request)
         (last : State) (input input' : StreamState)
-        → IsWrittenJournal root written all last → IsFirstOf journal.bytes written
-        → ReadsJournal root journal input input' → ComesBack root journal all last }
-    ensures goes_on { (first next : ServiceArguments) (served : ServeSummary) (kept : KeptSummary)
+        → IsWrittenJournal root written all last → IsPrefixOf journal.bytes written
+        → ReadsJournal root journal input input' → RestartsFromJournal root journal all last }
+    ensures goes_on { (first next : ServiceArguments) (served : ServeSummary) (kept : KeepSummary)
         (before between : OldJournal) (old new old' new' : KeepState W) → next.root ≡ first.root
-        → (run : ServesAfter W.keeps first (none_failed served) before old new)
-        → Took old.output.taken new.output.taken between.bytes
+        → (run : ServesAfterJournal W.keeps first (summary_without_failures served) before old new)
+        → TakesBytes old.output.taken new.output.taken between.bytes
         → ReadsJournal next.root between old'.input new'.input
-        → (run' : ServesAfter W.keeps next kept between old' new')
-        → (between.state ≡ run.next) × ComesTo next.root run.next run'.next }
+        → (run' : ServesAfterJournal W.keeps next kept between old' new')
+        → (between.state ≡ run.next) × ReachesByValidSteps next.root run.next run'.next }
 {}

@@ -11,7 +11,7 @@
 mod access_laws;
 mod edit_laws;
 mod feed_laws;
-mod flat_laws;
+mod flat_list_laws;
 mod follower_laws;
 mod journal_laws;
 mod method_laws;
@@ -27,7 +27,7 @@ pub use feed_laws::{
     changes_are_told_once, element_notices_miss_nothing, near_versions_are_known,
     what_is_fetched_is_a_version,
 };
-pub use flat_laws::flat_lists_are_sound;
+pub use flat_list_laws::flat_lists_are_sound;
 pub use follower_laws::followers_converge;
 pub use journal_laws::keep_after_keep;
 pub use method_laws::{head_is_get_without_body, unmodified_only_for_the_present_tag};

@@ -4,8 +4,8 @@ ghost use Rattle.http_wire.specs.declared.request.Request.{Request};
 ghost use Rattle.request_checks.specs.Methods.{method_of};
 ghost use Rattle.request_checks.specs.declared.method.Method.TheVariants.{Get, Head};
 ghost use Rattle.store_core.specs.Contents.{StoreContents};
-ghost use Rattle.xcap_laws.specs.Heads.{with_method, without_body};
-ghost use Rattle.xcap_laws.specs.Unmodified.{IsUnmodified};
+ghost use Rattle.xcap_laws.specs.HeadRequests.{with_method, without_body};
+ghost use Rattle.xcap_laws.specs.NotModifiedReplies.{IsUnmodified};
 ghost use Rattle.xcap_machine.specs.Answers.{Answer};
 ghost use Rattle.xcap_machine.specs.Requests.{IsAnswer};
 

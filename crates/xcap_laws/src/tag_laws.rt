@@ -8,11 +8,12 @@ ghost use Rattle.request_checks.specs.Fields.{Star, Tags};
 ghost use Rattle.request_checks.specs.declared.entity_tags.EntityTag.{EntityTag};
 ghost use Rattle.store_core.specs.Contents.{StoreContents};
 ghost use Rattle.store_core.specs.State.{State, Version};
-ghost use Rattle.xcap_laws.specs.Tags.{ChangesNamed, HasTagBelow, IfMatchSays, IfNoneMatchSays};
-ghost use Rattle.xcap_laws.specs.Tags.{IsPresent, Names};
-ghost use Rattle.xcap_machine.specs.Laws.{ChangesNothing};
-ghost use Rattle.xcap_machine.specs.Machine.{Does, Step, ValidStep};
-ghost use Rattle.xcap_machine.specs.Versions.{ComesTo, HasVersion};
+ghost use Rattle.xcap_laws.specs.EntityTags.{ChangesTaggedVersion, HasTagBelow, HasIfMatch};
+ghost use Rattle.xcap_laws.specs.EntityTags.{HasIfNoneMatch};
+ghost use Rattle.xcap_laws.specs.EntityTags.{IsPresentVersion, IsStrongTagOf};
+ghost use Rattle.xcap_machine.specs.StepOutcomes.{ChangesNothing};
+ghost use Rattle.xcap_machine.specs.Machine.{ContentStep, Step, ValidStep};
+ghost use Rattle.xcap_machine.specs.ReachedStates.{ReachesByValidSteps, HasVersion};
 
 /// A law: each change gets the next number as its tag, and uses it up. So its tag is greater than
 /// the tag of each version that any document had before in the run, of each earlier change, and of
@@ -22,15 +23,16 @@ pub fn tags_are_fresh()
         (reply : SentReply) (e : Edit) → Step root m request reply next (Some e)
         → (e.note.next ≡ m.next) × (next.next ≡ m.next + 1) }
     ensures above_versions { (root : List ℕ) (m n next : State) (id : DocId) (v : Version)
-        (request : Request) (reply : SentReply) (e : Edit) → HasVersion m id v → ComesTo root m n
+        (request : Request) (reply : SentReply) (e : Edit) → HasVersion m id v
+        → ReachesByValidSteps root m n
         → ValidStep root n request reply next (Some e) → v.tag < e.note.next }
     ensures above_changes { (root : List ℕ) (m n later last : State) (first second : Request)
         (reply answer : SentReply) (earlier e : Edit)
-        → ValidStep root m first reply n (Some earlier) → ComesTo root n later
+        → ValidStep root m first reply n (Some earlier) → ReachesByValidSteps root n later
         → ValidStep root later second answer last (Some e) → earlier.note.next < e.note.next }
     ensures above_replies { (root : List ℕ) (m n later last : State) (first second : Request)
         (reply answer : SentReply) (edit : Option Edit) (e : Edit)
-        → ValidStep root m first reply n edit → ComesTo root n later
+        → ValidStep root m first reply n edit → ReachesByValidSteps root n later
         → ValidStep root later second answer last (Some e) → HasTagBelow reply e.note.next }
 {}
 
@@ -41,18 +43,19 @@ pub fn tags_are_fresh()
 pub fn no_lost_update()
     ensures changes_named { (root : List ℕ) (c next : StoreContents) (request : Request)
         (reply : SentReply) (e : Edit) (tags : List EntityTag)
-        → Does root c request reply next (Some e) → IfMatchSays request (Tags tags)
-        → ChangesNamed c e tags }
+        → ContentStep root c request reply next (Some e) → HasIfMatch request (Tags tags)
+        → ChangesTaggedVersion c e tags }
     ensures changes_seen { (root : List ℕ) (m n next : State) (v : Version) (request : Request)
-        (reply : SentReply) (e : Edit) (tag : EntityTag) → HasVersion m e.doc v → ComesTo root m n
-        → ValidStep root n request reply next (Some e) → IfMatchSays request (Tags (tag ∷ []))
-        → Names tag v.tag → IsPresent n e v }
+        (reply : SentReply) (e : Edit) (tag : EntityTag) → HasVersion m e.doc v
+        → ReachesByValidSteps root m n
+        → ValidStep root n request reply next (Some e) → HasIfMatch request (Tags (tag ∷ []))
+        → IsStrongTagOf tag v.tag → IsPresentVersion n e v }
     ensures one_of_two { (root : List ℕ) (m n later last : State) (first second : Request)
         (reply answer : SentReply) (earlier : Edit) (edit : Option Edit) (tag : EntityTag)
-        → ValidStep root m first reply n (Some earlier) → ComesTo root n later
-        → ValidStep root later second answer last edit → IfMatchSays first (Tags (tag ∷ []))
-        → IfMatchSays second (Tags (tag ∷ [])) → ChangesNothing later last edit }
+        → ValidStep root m first reply n (Some earlier) → ReachesByValidSteps root n later
+        → ValidStep root later second answer last edit → HasIfMatch first (Tags (tag ∷ []))
+        → HasIfMatch second (Tags (tag ∷ [])) → ChangesNothing later last edit }
     ensures creates_only { (root : List ℕ) (c next : StoreContents) (request : Request)
-        (reply : SentReply) (e : Edit) → Does root c request reply next (Some e)
-        → IfNoneMatchSays request Star → reply.status ≡ 201 }
+        (reply : SentReply) (e : Edit) → ContentStep root c request reply next (Some e)
+        → HasIfNoneMatch request Star → reply.status ≡ 201 }
 {}

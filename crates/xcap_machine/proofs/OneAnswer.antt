@@ -2,16 +2,16 @@
 use Rattle.std.proofs.Common.{◌≡◌, ℕ, Bool, true, false, not, List, [], is_some, Option, None, Some, Result, Ok, Err, encode_utf8_all, refl, sym, ap, subst, ◌∙◌}
 use Rattle.std.specs.Bool.{MatchBool}
 use Rattle.xml_tree.specs.Tree.{Tree}
-use Rattle.tree_text.specs.Faults.{BodyAnswer, TextAnswer}
+use Rattle.tree_text.specs.Faults.{IsBodyResult, IsTextResult}
 use Rattle.xml_tree.specs.Print.{document_print}
-use Rattle.tree_text.specs.readers.Whole.{read_body_text, read_document_text}
+use Rattle.tree_text.specs.readers.WholeTexts.{read_body_text, read_document_text}
 use Rattle.tree_text.proofs.ReadAnswers.{body_answer, text_answer}
 use Rattle.tree_text.proofs.OneAnswer.{one_body as one_value_reading, one_text as one_reading}
 use Rattle.tree_text.specs.declared.fault.TextFault.{TextFault}
 use Rattle.tree_text.specs.declared.fault.ValueFault.{ValueFault}
 use Rattle.usage_docs.specs.Validation.{HasFirstFault}
 use Rattle.usage_docs.proofs.Judgements.{judged_one, judgement}
-use Rattle.doc_names.specs.Ids.{id_text}
+use Rattle.doc_names.specs.DocIds.{id_text}
 use Rattle.doc_names.specs.Usages.{usage_of}
 use Rattle.doc_names.specs.declared.usages.Usage.{Usage}
 use Rattle.doc_names.specs.declared.doc_id.DocId.{DocId}
@@ -19,52 +19,52 @@ use Rattle.node_select.specs.declared.selector.End.{End}
 use Rattle.node_select.specs.declared.selector.End.TheVariants as ends
 use Rattle.node_select.specs.declared.selector.Selector.{Selector}
 use Rattle.xcap_uri.specs.Ancestors.{ancestor_uri}
-use Rattle.xcap_uri.specs.Targets.{TargetResult}
+use Rattle.xcap_uri.specs.Targets.{IsTargetResult}
 use Rattle.xcap_uri.proofs.TargetAnswers.{one_target, some_target}
 use Rattle.xcap_uri.specs.declared.fault.UriFault.{UriFault}
 use Rattle.xcap_uri.specs.declared.target.Target.{Target}
 use Rattle.xcap_uri.specs.declared.target.Target.TheVariants.{Document, Node, Deep, Feed, ElementFeed, Flat}
 use Rattle.edit_ops.specs.declared.change.Change.{Change}
 use Rattle.edit_ops.specs.declared.change.Change.TheVariants.{RemoveDocument}
-use Rattle.edit_rules.specs.Attributes.{IsAttrPlan}
+use Rattle.edit_rules.specs.AttributePuts.{IsAttrPlan}
 use Rattle.edit_rules.specs.Deletions.{IsDeletePlan}
-use Rattle.edit_rules.specs.Puts.{IsPutPlan}
+use Rattle.edit_rules.specs.ElementPuts.{IsPutPlan}
 use Rattle.edit_rules.specs.Spots.{IsSpot, IsSpotOf}
-use Rattle.edit_rules.specs.declared.refusal.EditRefusal.{EditRefusal}
+use Rattle.edit_rules.specs.declared.edit_refusal.EditRefusal.{EditRefusal}
 use Rattle.edit_rules.specs.declared.spot.NoParent.{NoParent}
 use Rattle.edit_rules.specs.declared.spot.Spot.{Spot}
 use Rattle.edit_rules.specs.declared.spot.Spot.TheVariants.{Over, Under, Beside, Value}
 use Rattle.edit_rules.proofs.OneAnswer as plans
 use Rattle.edit_rules.proofs.SomeAnswer.{some_attr, some_delete, some_put, some_spot}
 use Rattle.reply_bodies.specs.declared.conflicts.ErrorBody.TheVariants as conflicts
-use Rattle.reply_text.specs.ReplyHeads.{SentReply, plain}
+use Rattle.reply_text.specs.ReplyHeads.{SentReply, plain_reply}
 use Rattle.reply_text.specs.declared.media_types.MediaType.{MediaType}
 use Rattle.http_wire.specs.declared.request.Request.{Request}
-use Rattle.request_checks.specs.Conditions.{IsStop}
+use Rattle.request_checks.specs.Conditions.{IsConditionReply}
 use Rattle.request_checks.proofs.ReadConditions.{one_stop, some_stop}
-use Rattle.request_checks.specs.MediaTypes.{document_media, has_type}
-use Rattle.request_checks.specs.Methods.{for_method, method_of, is_reading}
+use Rattle.request_checks.specs.MediaTypes.{document_media_type, has_media_type}
+use Rattle.request_checks.specs.Methods.{reply_for_method, method_of, is_reading}
 use Rattle.request_checks.specs.Rights.{is_allowed}
 use Rattle.request_checks.specs.declared.method.Method.{Method}
 use Rattle.request_checks.specs.declared.method.Method.TheVariants.{Get, Head, Put, Delete, Other}
-use Rattle.reply_bodies.specs.Nodes.{encoded, found_text, node_media}
+use Rattle.reply_bodies.specs.Nodes.{encode_optional, found_text, node_media_type}
 use Rattle.patch_rules.specs.Notices.{gone_notice}
 use Rattle.element_watch.specs.WatchedElements.{IsElementNotice}
 use Rattle.element_watch.proofs.States.{one_notice, some_notice}
 use Rattle.store_core.specs.Since.{ChangesSince, Gone, Unknown, ReportedChanges, since}
 use Rattle.store_core.specs.Contents.{StoreContents as Content}
 use Rattle.list_resolve.proofs.OneList.{one_list, some_list}
-use Rattle.xcap_machine.specs.Answers.{Answer, AfterConditions, conflict, found, not_allowed, unchanged}
-use Rattle.xcap_machine.specs.Requests.{ByMethod, ByTarget, ByUser, Deletes, IsAnswer, Puts, auid_of, fault_status, home_of, is_bindings, is_read_only, takes, ReadsTarget as Reads}
-use Rattle.xcap_machine.specs.ElementFeeds.{TellsElement}
+use Rattle.xcap_machine.specs.Answers.{Answer, AppliesConditions, error_reply, found_reply, not_allowed_reply, reply_only}
+use Rattle.xcap_machine.specs.Requests.{AnswersByMethod, AnswersByTarget, AnswersByUser, DeletesTarget, IsAnswer, PutsTarget, auid_of, fault_status, home_of, is_namespace_bindings, is_read_only, allows_method, ReadsTarget as Reads}
+use Rattle.xcap_machine.specs.ElementFeeds.{AnswersElementQuery}
 use Rattle.xcap_machine.specs.Feeds.{sends_notice, changes_since_answer}
-use Rattle.xcap_machine.specs.FlatLists.{IsFlatDocument, document_of, sends_flat}
+use Rattle.xcap_machine.specs.FlatLists.{IsFlatDocument, flat_document_result, flat_answer}
 use Rattle.xcap_machine.specs.ReadRequests.{SendsDocument, AnswersWithFound, SendsNode}
 use Rattle.xcap_machine.specs.Resources.{IsResourceOf, Resource, absent, beyond_limit, there, version_of}
-use Rattle.xcap_machine.specs.NodeWrites.{CutsNode, PutsAt, PutsElement, PutsFragment, PutsFrom, PutsValue, cut_reply, is_there, levels_for, plan_answer, put_planned, scope_for, value_conflict}
-use Rattle.xcap_machine.specs.DocumentWrites.{IfStored, PutsBody, PutsDocument, PutsSpelled, change_answer, deleted_reply, missing_parent_answer, put_answer, text_conflict}
-use Rattle.xcap_machine.specs.inner.Cases.{DeletesDocumentIn, DeletesNodeIn, PutsElementText, PutsNodeIn, PutsNodeOf, PutsValueText, IsAnswered, PutsText, by_judgement, version_tag as tag_of, Behind}
-use Rattle.xcap_machine.specs.inner.Records.{element_query, feed_query, read_by, representation, server_of, write_of}
+use Rattle.xcap_machine.specs.NodeWrites.{RemovesNode, PutsAtEditTarget, PutsElement, PutsFragment, PutsByEditTarget, PutsValue, node_delete_reply, node_exists, max_height_at, plan_answer, planned_put_answer, edit_target_scope, value_conflict}
+use Rattle.xcap_machine.specs.DocumentWrites.{WritesIfStored, PutsBody, PutsDocument, PutsParsedBody, change_answer, delete_reply, missing_parent_answer, put_answer, text_conflict}
+use Rattle.xcap_machine.specs.inner.AnswerCases.{DeletesDocumentIfStored, DeletesNodeIfStored, PutsElementText, PutsNodeIfStored, PutsNodeOfVersion, PutsValueText, IsAnswerByTarget, PutsParsedText, judgement_answer, version_tag as tag_of, AnswersUnlessStopped}
+use Rattle.xcap_machine.specs.inner.RecordValues.{element_query, feed_query, read_request, representation, server_state, node_write}
 use Rattle.xcap_machine.proofs.ResourceLemmas.{leads, only_leads, resource}
 
 -- there is an answer of this kind, and there is no other
@@ -80,176 +80,176 @@ one_either : (test : Bool) (P Q : Answer → Type 0) → (test ≡ true → IsOn
 one_either true P Q p q = p refl
 one_either false P Q p q = q refl
 
-one_stored : (u : Option Usage) (request : Request) (P : Usage → Answer → Type 0) → ((usage : Usage) → IsOne (P usage)) → IsOne (λ a. IfStored u request a (λ usage. P usage a))
-one_stored None request P p = one_equal (unchanged (plain 403 request.closes))
+one_stored : (u : Option Usage) (request : Request) (P : Usage → Answer → Type 0) → ((usage : Usage) → IsOne (P usage)) → IsOne (λ a. WritesIfStored u request a (λ usage. P usage a))
+one_stored None request P p = one_equal (reply_only (plain_reply 403 request.closes))
 one_stored (Some usage) request P p = p usage
 
 -- the answer follows from one thing that is found so
 one_by : {R : Type 0} (IsFound : R → Type 0) (P : R → Answer → Type 0) (r : R) → IsFound r → ((x : R) → IsFound x → x ≡ r) → IsOne (P r) → IsOne (λ a. (x : R) × IsFound x × P x a)
-one_by IsFound P r found only_r one = record { answer = one.answer; is = (r, found, one.is); only = λ a h. one.only a (subst (λ x. P x a) (only_r h.0 h.1) h.2) }
+one_by IsFound P r found_reply only_r one = record { answer = one.answer; is = (r, found_reply, one.is); only = λ a h. one.only a (subst (λ x. P x a) (only_r h.0 h.1) h.2) }
 
-one_past : (stop : Option SentReply) (P : Answer → Type 0) → IsOne P → IsOne (λ a. Behind stop a (P a))
+one_past : (stop : Option SentReply) (P : Answer → Type 0) → IsOne P → IsOne (λ a. AnswersUnlessStopped stop a (P a))
 one_past None P p = p
-one_past (Some reply) P p = one_equal (unchanged reply)
+one_past (Some reply) P p = one_equal (reply_only reply)
 
-one_behind : (request : Request) (tag : Option ℕ) (exists reading : Bool) (P : Answer → Type 0) → IsOne P → IsOne (λ a. AfterConditions request (representation tag exists) reading a (P a))
+one_behind : (request : Request) (tag : Option ℕ) (exists reading : Bool) (P : Answer → Type 0) → IsOne P → IsOne (λ a. AppliesConditions request (representation tag exists) reading a (P a))
 one_behind request tag exists reading P p =
     let stop = some_stop request tag exists reading in
-    one_by (IsStop request tag exists reading) (λ s a. Behind s a (P a)) stop.0 stop.1 (λ s is. one_stop request tag exists reading s stop.0 is stop.1) (one_past stop.0 P p)
+    one_by (IsConditionReply request tag exists reading) (λ s a. AnswersUnlessStopped s a (P a)) stop.0 stop.1 (λ s is. one_stop request tag exists reading s stop.0 is stop.1) (one_past stop.0 P p)
 
 -- ---- reading
 
 module _ (method : Method) (request : Request) where
-  one_found : (text : Option (List ℕ)) (tag : ℕ) (media : MediaType) → IsOne (λ a. AnswersWithFound text tag media (read_by method request) a)
-  one_found None tag media = one_equal (unchanged (plain 404 request.closes))
+  one_found : (text : Option (List ℕ)) (tag : ℕ) (media : MediaType) → IsOne (λ a. AnswersWithFound text tag media (read_request method request) a)
+  one_found None tag media = one_equal (reply_only (plain_reply 404 request.closes))
   one_found (Some text) tag media =
-      let last : Answer = unchanged (for_method method (found (Some tag) media text request.closes)) in
+      let last : Answer = reply_only (reply_for_method method (found_reply (Some tag) media text request.closes)) in
       one_behind request (Some tag) true true (λ a. a ≡ last) (one_equal last)
 
-  one_document_sent : (r : Resource) (media : MediaType) → IsOne (λ a. SendsDocument r media (read_by method request) a)
-  one_document_sent absent media = one_equal (unchanged (plain 404 request.closes))
-  one_document_sent beyond_limit media = one_equal (unchanged (plain 507 request.closes))
+  one_document_sent : (r : Resource) (media : MediaType) → IsOne (λ a. SendsDocument r media (read_request method request) a)
+  one_document_sent absent media = one_equal (reply_only (plain_reply 404 request.closes))
+  one_document_sent beyond_limit media = one_equal (reply_only (plain_reply 507 request.closes))
   one_document_sent (there t tag) media = one_found (Some (encode_utf8_all (document_print t))) tag media
 
-  one_node_sent : (r : Resource) (selector : Selector) → IsOne (λ a. SendsNode r selector (read_by method request) a)
-  one_node_sent absent selector = one_equal (unchanged (plain 404 request.closes))
-  one_node_sent beyond_limit selector = one_equal (unchanged (plain 507 request.closes))
-  one_node_sent (there t tag) selector = one_found (encoded (found_text t selector)) tag (node_media selector.end)
+  one_node_sent : (r : Resource) (selector : Selector) → IsOne (λ a. SendsNode r selector (read_request method request) a)
+  one_node_sent absent selector = one_equal (reply_only (plain_reply 404 request.closes))
+  one_node_sent beyond_limit selector = one_equal (reply_only (plain_reply 507 request.closes))
+  one_node_sent (there t tag) selector = one_found (encode_optional (found_text t selector)) tag (node_media_type selector.end)
 
-  one_element_told : (root : List ℕ) (c : Content) (tag : ℕ) (id : DocId) (selector : Selector) (raw : List ℕ) (changes_since : ChangesSince) → since c id tag ≡ changes_since → IsOne (λ a. TellsElement (server_of root c) (element_query tag id selector raw) changes_since (read_by method request) a)
-  one_element_told root c tag id selector raw Gone is = one_equal (sends_notice (gone_notice root (id_text id) tag) (read_by method request))
-  one_element_told root c tag id selector raw Unknown is = one_equal (unchanged (plain 410 request.closes))
+  one_element_told : (root : List ℕ) (c : Content) (tag : ℕ) (id : DocId) (selector : Selector) (raw : List ℕ) (changes_since : ChangesSince) → since c id tag ≡ changes_since → IsOne (λ a. AnswersElementQuery (server_state root c) (element_query tag id selector raw) changes_since (read_request method request) a)
+  one_element_told root c tag id selector raw Gone is = one_equal (sends_notice (gone_notice root (id_text id) tag) (read_request method request))
+  one_element_told root c tag id selector raw Unknown is = one_equal (reply_only (plain_reply 410 request.closes))
   one_element_told root c tag id selector raw (ReportedChanges ns) is =
       let notice = some_notice root c tag id selector raw ns is in
-      one_by (IsElementNotice root (record { doc = id; selector = selector; raw = raw }) c ns) (λ n a. a ≡ sends_notice n (read_by method request)) notice.0 notice.1 (λ n h. one_notice root c id selector raw ns n notice.0 h notice.1) (one_equal (sends_notice notice.0 (read_by method request)))
+      one_by (IsElementNotice root (record { doc = id; selector = selector; raw = raw }) c ns) (λ n a. a ≡ sends_notice n (read_request method request)) notice.0 notice.1 (λ n h. one_notice root c id selector raw ns n notice.0 h notice.1) (one_equal (sends_notice notice.0 (read_request method request)))
 
-  one_read : (root : List ℕ) (c : Content) (target : Target) → IsOne (λ a. Reads (server_of root c) target (read_by method request) a)
+  one_read : (root : List ℕ) (c : Content) (target : Target) → IsOne (λ a. Reads (server_state root c) target (read_request method request) a)
   one_read root c (Document id) =
       let r = resource c id in
-      one_by (IsResourceOf c id) (λ r a. SendsDocument r (document_media id.auid) (read_by method request) a) r (leads c id) (only_leads c id) (one_document_sent r (document_media id.auid))
+      one_by (IsResourceOf c id) (λ r a. SendsDocument r (document_media_type id.auid) (read_request method request) a) r (leads c id) (only_leads c id) (one_document_sent r (document_media_type id.auid))
   one_read root c (Node id selector) =
       let r = resource c id in
-      one_by (IsResourceOf c id) (λ r a. SendsNode r selector (read_by method request) a) r (leads c id) (only_leads c id) (one_node_sent r selector)
-  one_read root c (Deep auid home) = one_equal (unchanged (plain 404 request.closes))
-  one_read root c (Feed mode tag id) = one_equal (changes_since_answer root (feed_query mode tag id) (since c id tag) (read_by method request))
+      one_by (IsResourceOf c id) (λ r a. SendsNode r selector (read_request method request) a) r (leads c id) (only_leads c id) (one_node_sent r selector)
+  one_read root c (Deep auid home) = one_equal (reply_only (plain_reply 404 request.closes))
+  one_read root c (Feed mode tag id) = one_equal (changes_since_answer root (feed_query mode tag id) (since c id tag) (read_request method request))
   one_read root c (ElementFeed tag id selector raw) = one_element_told root c tag id selector raw (since c id tag) refl
   one_read root c (Flat id service) =
       let list = some_list c root id service in
-      let document = document_of list.0 in
-      one_by (IsFlatDocument root c id service) (λ x a. a ≡ sends_flat x (read_by method request)) document (list.0, list.1, refl) (λ x is. is.2 ∙ ap document_of (one_list c root id service is.0 list.0 is.1 list.1))
-      (one_equal (sends_flat document (read_by method request)))
+      let document = flat_document_result list.0 in
+      one_by (IsFlatDocument root c id service) (λ x a. a ≡ flat_answer x (read_request method request)) document (list.0, list.1, refl) (λ x is. is.2 ∙ ap flat_document_result (one_list c root id service is.0 list.0 is.1 list.1))
+      (one_equal (flat_answer document (read_request method request)))
 
 -- ---- PUT of documents
 
-one_text : (usage : Usage) (closes : Bool) (answer : Tree → Answer) (read : Result Tree TextFault) → IsOne (λ a. PutsText usage read closes answer a)
-one_text usage closes answer (Err fault) = one_equal (unchanged (conflict (text_conflict conflicts.NotWellFormed fault) closes))
+one_text : (usage : Usage) (closes : Bool) (answer : Tree → Answer) (read : Result Tree TextFault) → IsOne (λ a. PutsParsedText usage read closes answer a)
+one_text usage closes answer (Err fault) = one_equal (reply_only (error_reply (text_conflict conflicts.NotWellFormed fault) closes))
 one_text usage closes answer (Ok t) =
-    let found = judgement usage t in
-    one_by (HasFirstFault usage t) (λ j a. a ≡ by_judgement j closes (answer t)) found.0 found.1 (λ j is. judged_one usage t j found.0 is found.1) (one_equal (by_judgement found.0 closes (answer t)))
+    let found_reply = judgement usage t in
+    one_by (HasFirstFault usage t) (λ j a. a ≡ judgement_answer j closes (answer t)) found_reply.0 found_reply.1 (λ j is. judged_one usage t j found_reply.0 is found_reply.1) (one_equal (judgement_answer found_reply.0 closes (answer t)))
 
-one_spelled : (usage : Usage) (request : Request) (answer : Tree → Answer) → IsOne (λ a. PutsSpelled usage request answer a)
+one_spelled : (usage : Usage) (request : Request) (answer : Tree → Answer) → IsOne (λ a. PutsParsedBody usage request answer a)
 one_spelled usage request answer =
     let read = read_document_text 64 [] request.body in
     let spelled = text_answer 64 [] request.body in
-    one_by (TextAnswer 64 [] request.body) (λ r a. PutsText usage r request.closes answer a) read spelled (λ r is. one_reading 64 [] request.body r read is spelled) (one_text usage request.closes answer read)
+    one_by (IsTextResult 64 [] request.body) (λ r a. PutsParsedText usage r request.closes answer a) read spelled (λ r is. one_reading 64 [] request.body r read is spelled) (one_text usage request.closes answer read)
 
 one_body : (usage : Usage) (media : MediaType) (request : Request) (answer : Tree → Answer) → IsOne (λ a. PutsBody usage media request answer a)
 one_body usage media request answer =
-    one_either (has_type media request.fields) (λ a. PutsSpelled usage request answer a) (λ a. a ≡ unchanged (plain 415 request.closes))
-    (λ _. one_spelled usage request answer) (λ _. one_equal (unchanged (plain 415 request.closes)))
+    one_either (has_media_type media request.fields) (λ a. PutsParsedBody usage request answer a) (λ a. a ≡ reply_only (plain_reply 415 request.closes))
+    (λ _. one_spelled usage request answer) (λ _. one_equal (reply_only (plain_reply 415 request.closes)))
 
 module _ (c : Content) (id : DocId) (request : Request) where
   one_document_put : (usage : Usage) → IsOne (λ a. PutsDocument c id usage request a)
   one_document_put usage =
-      one_behind request (tag_of (version_of c id)) (is_some (version_of c id)) false (λ a. PutsBody usage (document_media id.auid) request (put_answer c id request.closes) a)
-      (one_body usage (document_media id.auid) request (put_answer c id request.closes))
+      one_behind request (tag_of (version_of c id)) (is_some (version_of c id)) false (λ a. PutsBody usage (document_media_type id.auid) request (put_answer c id request.closes) a)
+      (one_body usage (document_media_type id.auid) request (put_answer c id request.closes))
 
   -- ---- PUT of nodes
 
   module _ (usage : Usage) (selector : Selector) (t : Tree) where
-    one_element_text : (spot : Spot) → selector.end ≡ ends.Element → IsSpotOf t selector spot → (read : Result Tree TextFault) → IsOne (λ a. PutsElementText c (write_of id usage selector request) t spot read a)
-    one_element_text spot ends_so is (Err fault) = one_equal (unchanged (conflict (text_conflict conflicts.NotXmlFrag fault) request.closes))
+    one_element_text : (spot : Spot) → selector.end ≡ ends.Element → IsSpotOf t selector spot → (read : Result Tree TextFault) → IsOne (λ a. PutsElementText c (node_write id usage selector request) t spot read a)
+    one_element_text spot ends_so is (Err fault) = one_equal (reply_only (error_reply (text_conflict conflicts.NotXmlFrag fault) request.closes))
     one_element_text spot ends_so is (Ok e) =
         let plan = some_put usage t selector spot e ends_so is in
-        one_by (IsPutPlan (record { usage = usage; document = t; steps = selector.steps }) spot e) (λ p a. a ≡ put_planned c (write_of id usage selector request) t p) plan.0 plan.1
-        (λ p h. plans.one_put usage t selector.steps spot e p plan.0 h plan.1) (one_equal (put_planned c (write_of id usage selector request) t plan.0))
+        one_by (IsPutPlan (record { usage = usage; document = t; steps = selector.steps }) spot e) (λ p a. a ≡ planned_put_answer c (node_write id usage selector request) t p) plan.0 plan.1
+        (λ p h. plans.one_put usage t selector.steps spot e p plan.0 h plan.1) (one_equal (planned_put_answer c (node_write id usage selector request) t plan.0))
 
-    one_element : (spot : Spot) → selector.end ≡ ends.Element → IsSpotOf t selector spot → IsOne (λ a. PutsElement c (write_of id usage selector request) t spot a)
+    one_element : (spot : Spot) → selector.end ≡ ends.Element → IsSpotOf t selector spot → IsOne (λ a. PutsElement c (node_write id usage selector request) t spot a)
     one_element spot ends_so is =
-        let levels = levels_for spot in
-        let scope = scope_for t spot in
+        let levels = max_height_at spot in
+        let scope = edit_target_scope t spot in
         let read = read_document_text levels scope request.body in
         let spelled = text_answer levels scope request.body in
-        one_by (TextAnswer levels scope request.body) (λ r a. PutsElementText c (write_of id usage selector request) t spot r a) read spelled
+        one_by (IsTextResult levels scope request.body) (λ r a. PutsElementText c (node_write id usage selector request) t spot r a) read spelled
         (λ r h. one_reading levels scope request.body r read h spelled) (one_element_text spot ends_so is read)
 
-    one_value_text : (p : List ℕ) → IsSpotOf t selector (Value p) → (read : Result (List ℕ) ValueFault) → IsOne (λ a. PutsValueText c (write_of id usage selector request) t p read a)
-    one_value_text p is (Err fault) = one_equal (unchanged (conflict (value_conflict fault) request.closes))
+    one_value_text : (p : List ℕ) → IsSpotOf t selector (Value p) → (read : Result (List ℕ) ValueFault) → IsOne (λ a. PutsValueText c (node_write id usage selector request) t p read a)
+    one_value_text p is (Err fault) = one_equal (reply_only (error_reply (value_conflict fault) request.closes))
     one_value_text p is (Ok value) =
         let plan = some_attr usage t selector p value is in
-        one_by (IsAttrPlan (record { usage = usage; document = t; steps = selector.steps }) selector.end p value) (λ x a. a ≡ put_planned c (write_of id usage selector request) t x) plan.0 plan.1
-        (λ x h. plans.one_attr usage t selector.steps selector.end p value x plan.0 h plan.1) (one_equal (put_planned c (write_of id usage selector request) t plan.0))
+        one_by (IsAttrPlan (record { usage = usage; document = t; steps = selector.steps }) selector.end p value) (λ x a. a ≡ planned_put_answer c (node_write id usage selector request) t x) plan.0 plan.1
+        (λ x h. plans.one_attr usage t selector.steps selector.end p value x plan.0 h plan.1) (one_equal (planned_put_answer c (node_write id usage selector request) t plan.0))
 
-    one_value : (p : List ℕ) → IsSpotOf t selector (Value p) → IsOne (λ a. PutsValue c (write_of id usage selector request) t p a)
+    one_value : (p : List ℕ) → IsSpotOf t selector (Value p) → IsOne (λ a. PutsValue c (node_write id usage selector request) t p a)
     one_value p is =
         let read = read_body_text request.body in
         let spelled = body_answer request.body in
-        one_by (BodyAnswer request.body) (λ r a. PutsValueText c (write_of id usage selector request) t p r a) read spelled (λ r h. one_value_reading request.body r read h spelled) (one_value_text p is read)
+        one_by (IsBodyResult request.body) (λ r a. PutsValueText c (node_write id usage selector request) t p r a) read spelled (λ r h. one_value_reading request.body r read h spelled) (one_value_text p is read)
 
-    one_at : (spot : Spot) → IsSpotOf t selector spot → IsOne (λ a. PutsAt c (write_of id usage selector request) t spot a)
+    one_at : (spot : Spot) → IsSpotOf t selector spot → IsOne (λ a. PutsAtEditTarget c (node_write id usage selector request) t spot a)
     one_at (Over p) is = one_element (Over p) is.0 is
     one_at (Under q) is = one_element (Under q) is.0 is
     one_at Beside is = one_element Beside is.0 is
     one_at (Value p) is = one_value p is
 
-    one_fragment : (spot : Spot) → IsSpotOf t selector spot → IsOne (λ a. PutsFragment c (write_of id usage selector request) t spot a)
+    one_fragment : (spot : Spot) → IsSpotOf t selector spot → IsOne (λ a. PutsFragment c (node_write id usage selector request) t spot a)
     one_fragment spot is =
-        one_either (has_type (node_media selector.end) request.fields) (λ a. PutsAt c (write_of id usage selector request) t spot a) (λ a. a ≡ unchanged (plain 415 request.closes))
-        (λ _. one_at spot is) (λ _. one_equal (unchanged (plain 415 request.closes)))
+        one_either (has_media_type (node_media_type selector.end) request.fields) (λ a. PutsAtEditTarget c (node_write id usage selector request) t spot a) (λ a. a ≡ reply_only (plain_reply 415 request.closes))
+        (λ _. one_at spot is) (λ _. one_equal (reply_only (plain_reply 415 request.closes)))
 
-    one_from : (root : List ℕ) (tag : ℕ) (spot : Result Spot NoParent) → IsSpot t selector spot → IsOne (λ a. PutsFrom (server_of root c) (write_of id usage selector request) (t, tag) spot a)
-    one_from root tag (Err none) is = one_equal (unchanged (conflict (conflicts.NoParent (ancestor_uri root id t selector.steps)) request.closes))
-    one_from root tag (Ok spot) is = one_behind request (Some tag) (is_there t selector) false (λ a. PutsFragment c (write_of id usage selector request) t spot a) (one_fragment spot is)
+    one_from : (root : List ℕ) (tag : ℕ) (spot : Result Spot NoParent) → IsSpot t selector spot → IsOne (λ a. PutsByEditTarget (server_state root c) (node_write id usage selector request) (t, tag) spot a)
+    one_from root tag (Err none) is = one_equal (reply_only (error_reply (conflicts.NoParent (ancestor_uri root id t selector.steps)) request.closes))
+    one_from root tag (Ok spot) is = one_behind request (Some tag) (node_exists t selector) false (λ a. PutsFragment c (node_write id usage selector request) t spot a) (one_fragment spot is)
 
-    one_node_of : (root : List ℕ) (tag : ℕ) → IsOne (λ a. PutsNodeOf (server_of root c) (write_of id usage selector request) (t, tag) a)
+    one_node_of : (root : List ℕ) (tag : ℕ) → IsOne (λ a. PutsNodeOfVersion (server_state root c) (node_write id usage selector request) (t, tag) a)
     one_node_of root tag =
         let spot = some_spot t selector in
-        one_by (IsSpot t selector) (λ s a. PutsFrom (server_of root c) (write_of id usage selector request) (t, tag) s a) spot.0 spot.1 (λ s is. plans.one_spot t selector s spot.0 is spot.1) (one_from root tag spot.0 spot.1)
+        one_by (IsSpot t selector) (λ s a. PutsByEditTarget (server_state root c) (node_write id usage selector request) (t, tag) s a) spot.0 spot.1 (λ s is. plans.one_spot t selector s spot.0 is spot.1) (one_from root tag spot.0 spot.1)
 
-  one_node_put : (root : List ℕ) (usage : Usage) (selector : Selector) (version : Option (Tree × ℕ)) → IsOne (λ a. PutsNodeIn (server_of root c) (write_of id usage selector request) version a)
+  one_node_put : (root : List ℕ) (usage : Usage) (selector : Selector) (version : Option (Tree × ℕ)) → IsOne (λ a. PutsNodeIfStored (server_state root c) (node_write id usage selector request) version a)
   one_node_put root usage selector None = one_equal (missing_parent_answer root id.auid id.home request)
   one_node_put root usage selector (Some (t, tag)) = one_node_of usage selector t root tag
 
   -- ---- DELETE
 
-  one_document_deleted : (version : Option (Tree × ℕ)) → IsOne (λ a. DeletesDocumentIn c id version request a)
-  one_document_deleted None = one_equal (unchanged (plain 404 request.closes))
+  one_document_deleted : (version : Option (Tree × ℕ)) → IsOne (λ a. DeletesDocumentIfStored c id version request a)
+  one_document_deleted None = one_equal (reply_only (plain_reply 404 request.closes))
   one_document_deleted (Some (t, tag)) =
-      let last : Answer = change_answer c id RemoveDocument request.closes (deleted_reply request.closes) in
+      let last : Answer = change_answer c id RemoveDocument request.closes (delete_reply request.closes) in
       one_behind request (Some tag) true false (λ a. a ≡ last) (one_equal last)
 
-  one_cut : (usage : Usage) (selector : Selector) (t : Tree) → (selector.end ≡ ends.Namespaces → ⊥) → IsOne (λ a. CutsNode c (write_of id usage selector request) t a)
+  one_cut : (usage : Usage) (selector : Selector) (t : Tree) → (selector.end ≡ ends.Namespaces → ⊥) → IsOne (λ a. RemovesNode c (node_write id usage selector request) t a)
   one_cut usage selector t node =
       let plan = some_delete usage t selector node in
-      let answer : Result Change EditRefusal → Answer = λ p. plan_answer c id request.closes (cut_reply request.closes) p in
+      let answer : Result Change EditRefusal → Answer = λ p. plan_answer c id request.closes (node_delete_reply request.closes) p in
       one_by (IsDeletePlan usage t selector) (λ p a. a ≡ answer p) plan.0 plan.1 (λ p h. plans.one_delete usage t selector p plan.0 h plan.1) (one_equal (answer plan.0))
 
-  one_node_deleted : (usage : Usage) (selector : Selector) → (selector.end ≡ ends.Namespaces → ⊥) → (version : Option (Tree × ℕ)) → IsOne (λ a. DeletesNodeIn c (write_of id usage selector request) version a)
-  one_node_deleted usage selector node None = one_equal (unchanged (plain 404 request.closes))
+  one_node_deleted : (usage : Usage) (selector : Selector) → (selector.end ≡ ends.Namespaces → ⊥) → (version : Option (Tree × ℕ)) → IsOne (λ a. DeletesNodeIfStored c (node_write id usage selector request) version a)
+  one_node_deleted usage selector node None = one_equal (reply_only (plain_reply 404 request.closes))
   one_node_deleted usage selector node (Some (t, tag)) =
-      let Last : Answer → Type 0 = λ a. CutsNode c (write_of id usage selector request) t a in
-      let missing : Answer = unchanged (plain 404 request.closes) in
-      one_either (is_there t selector) (λ a. AfterConditions request (representation (Some tag) true) false a (Last a)) (λ a. a ≡ missing) (λ _. one_behind request (Some tag) true false Last (one_cut usage selector t node)) (λ _. one_equal missing)
+      let Last : Answer → Type 0 = λ a. RemovesNode c (node_write id usage selector request) t a in
+      let missing : Answer = reply_only (plain_reply 404 request.closes) in
+      one_either (node_exists t selector) (λ a. AppliesConditions request (representation (Some tag) true) false a (Last a)) (λ a. a ≡ missing) (λ _. one_behind request (Some tag) true false Last (one_cut usage selector t node)) (λ _. one_equal missing)
 
 -- ---- all in order
 
 -- namespace bindings aren't written
-not_bindings : (selector : Selector) → not (is_bindings selector.end) ≡ true → selector.end ≡ ends.Namespaces → ⊥
-not_bindings selector written is = let z : false ≡ true = sym (ap (λ (end : End). not (is_bindings end)) is) ∙ written in cc
+not_bindings : (selector : Selector) → not (is_namespace_bindings selector.end) ≡ true → selector.end ≡ ends.Namespaces → ⊥
+not_bindings selector written is = let z : false ≡ true = sym (ap (λ (end : End). not (is_namespace_bindings end)) is) ∙ written in cc
 
 module _ (root : List ℕ) (c : Content) (request : Request) where
   -- a target that can only be read isn't written
-  one_put : (target : Target) (usage : Usage) → takes target Put ≡ true → IsOne (λ a. Puts (server_of root c) target usage request a)
+  one_put : (target : Target) (usage : Usage) → allows_method target Put ≡ true → IsOne (λ a. PutsTarget (server_state root c) target usage request a)
   one_put (Document id) usage written = one_document_put c id request usage
   one_put (Node id selector) usage written = one_node_put c id request root usage selector (version_of c id)
   one_put (Deep auid home) usage written = one_equal (missing_parent_answer root auid home request)
@@ -257,39 +257,39 @@ module _ (root : List ℕ) (c : Content) (request : Request) where
   one_put (ElementFeed tag id selector raw) usage written = let none : ⊥ = cc in absurd none
   one_put (Flat id service) usage written = let none : ⊥ = cc in absurd none
 
-  one_deleted : (target : Target) (usage : Usage) → takes target Delete ≡ true → IsOne (λ a. Deletes c target usage request a)
+  one_deleted : (target : Target) (usage : Usage) → allows_method target Delete ≡ true → IsOne (λ a. DeletesTarget c target usage request a)
   one_deleted (Document id) usage written = one_document_deleted c id request (version_of c id)
   one_deleted (Node id selector) usage written = one_node_deleted c id request usage selector (not_bindings selector written) (version_of c id)
-  one_deleted (Deep auid home) usage written = one_equal (unchanged (plain 404 request.closes))
+  one_deleted (Deep auid home) usage written = one_equal (reply_only (plain_reply 404 request.closes))
   one_deleted (Feed mode tag id) usage written = let none : ⊥ = cc in absurd none
   one_deleted (ElementFeed tag id selector raw) usage written = let none : ⊥ = cc in absurd none
   one_deleted (Flat id service) usage written = let none : ⊥ = cc in absurd none
 
-  one_by_method : (target : Target) (method : Method) → takes target method ≡ true → IsOne (λ a. ByMethod (server_of root c) target method request a)
+  one_by_method : (target : Target) (method : Method) → allows_method target method ≡ true → IsOne (λ a. AnswersByMethod (server_state root c) target method request a)
   one_by_method target Get takes_it = one_read Get request root c target
   one_by_method target Head takes_it = one_read Head request root c target
-  one_by_method target Put takes_it = one_stored (usage_of (auid_of target)) request (λ usage a. Puts (server_of root c) target usage request a) (λ usage. one_put target usage takes_it)
-  one_by_method target Delete takes_it = one_stored (usage_of (auid_of target)) request (λ usage a. Deletes c target usage request a) (λ usage. one_deleted target usage takes_it)
+  one_by_method target Put takes_it = one_stored (usage_of (auid_of target)) request (λ usage a. PutsTarget (server_state root c) target usage request a) (λ usage. one_put target usage takes_it)
+  one_by_method target Delete takes_it = one_stored (usage_of (auid_of target)) request (λ usage a. DeletesTarget c target usage request a) (λ usage. one_deleted target usage takes_it)
   one_by_method target Other takes_it = let none : ⊥ = cc in absurd none
 
-  one_by_user : (target : Target) (method : Method) → takes target method ≡ true → IsOne (λ a. ByUser (server_of root c) target method request a)
+  one_by_user : (target : Target) (method : Method) → allows_method target method ≡ true → IsOne (λ a. AnswersByUser (server_state root c) target method request a)
   one_by_user target method takes_it =
-      one_either (is_allowed (not (is_reading method)) (auid_of target) (home_of target) request.fields) (λ a. ByMethod (server_of root c) target method request a) (λ a. a ≡ unchanged (plain 403 request.closes))
-      (λ _. one_by_method target method takes_it) (λ _. one_equal (unchanged (plain 403 request.closes)))
+      one_either (is_allowed (not (is_reading method)) (auid_of target) (home_of target) request.fields) (λ a. AnswersByMethod (server_state root c) target method request a) (λ a. a ≡ reply_only (plain_reply 403 request.closes))
+      (λ _. one_by_method target method takes_it) (λ _. one_equal (reply_only (plain_reply 403 request.closes)))
 
-  one_by_target : (target : Target) (method : Method) → IsOne (λ a. ByTarget (server_of root c) target method request a)
+  one_by_target : (target : Target) (method : Method) → IsOne (λ a. AnswersByTarget (server_state root c) target method request a)
   one_by_target target method =
-      one_either (takes target method) (λ a. ByUser (server_of root c) target method request a) (λ a. a ≡ unchanged (not_allowed (is_read_only target) request.closes))
-      (one_by_user target method) (λ _. one_equal (unchanged (not_allowed (is_read_only target) request.closes)))
+      one_either (allows_method target method) (λ a. AnswersByUser (server_state root c) target method request a) (λ a. a ≡ reply_only (not_allowed_reply (is_read_only target) request.closes))
+      (one_by_user target method) (λ _. one_equal (reply_only (not_allowed_reply (is_read_only target) request.closes)))
 
-  one_answered : (read : Result Target UriFault) → IsOne (λ a. IsAnswered root c read request a)
-  one_answered (Err fault) = one_equal (unchanged (plain (fault_status fault) request.closes))
+  one_answered : (read : Result Target UriFault) → IsOne (λ a. IsAnswerByTarget root c read request a)
+  one_answered (Err fault) = one_equal (reply_only (plain_reply (fault_status fault) request.closes))
   one_answered (Ok target) = one_by_target target (method_of request.method)
 
   exactly_one : IsOne (IsAnswer root c request)
   exactly_one =
       let read = some_target root request.target in
-      one_by (TargetResult root request.target) (λ r a. IsAnswered root c r request a) read.0 read.1 (λ r is. one_target root request.target r read.0 is read.1) (one_answered read.0)
+      one_by (IsTargetResult root request.target) (λ r a. IsAnswerByTarget root c r request a) read.0 read.1 (λ r is. one_target root request.target r read.0 is read.1) (one_answered read.0)
 
 pub some_answer : (root : List ℕ) (c : Content) (request : Request) → (a : Answer) × IsAnswer root c request a
 some_answer root c request = let one = exactly_one root c request in (one.answer, one.is)

@@ -14,7 +14,7 @@ use Rattle.doc_names.specs.declared.doc_id.DocId.{DocId}
 use Rattle.store_core.specs.Indexes.{index}
 use Rattle.store_core.proofs.ByUser.{index_trees, one-index-trees, some-index-trees}
 use Rattle.store_core.specs.Contents.{StoreContents as Content}
-use Rattle.xcap_machine.specs.Resources.{IsIndexOfServices, LeadsFrom, IsResourceOf, LeadsUnderGlobal, Resource, absent, beyond_limit, there, version_of}
+use Rattle.xcap_machine.specs.Resources.{IsIndexOfServices, IsResourceInHome, IsResourceOf, IsGlobalResource, Resource, absent, beyond_limit, there, version_of}
 
 -- ---- the index
 
@@ -42,14 +42,14 @@ under_global c RlsServices true = if_within_limit (services c) (c.next - 1)
 under_global c XcapCaps false = absent
 under_global c XcapCaps true = there capabilities 0
 
-leads_under_global : (c : Content) (auid : Auid) (is_index : Bool) → LeadsUnderGlobal c auid is_index (under_global c auid is_index)
+leads_under_global : (c : Content) (auid : Auid) (is_index : Bool) → IsGlobalResource c auid is_index (under_global c auid is_index)
 leads_under_global c ResourceLists is_index = refl
 leads_under_global c RlsServices false = refl
 leads_under_global c RlsServices true = (services c, is_services c, refl)
 leads_under_global c XcapCaps false = refl
 leads_under_global c XcapCaps true = refl
 
-only_under_global : (c : Content) (auid : Auid) (is_index : Bool) (r : Resource) → LeadsUnderGlobal c auid is_index r → r ≡ under_global c auid is_index
+only_under_global : (c : Content) (auid : Auid) (is_index : Bool) (r : Resource) → IsGlobalResource c auid is_index r → r ≡ under_global c auid is_index
 only_under_global c ResourceLists is_index r h = h
 only_under_global c RlsServices false r h = h
 only_under_global c RlsServices true r h = h.2 ∙ ap (λ (root : Tree). if_within_limit root (c.next - 1)) (only_services c h.0 h.1)
@@ -60,11 +60,11 @@ abbrev resource_from : Content → DocId → Home → Resource
 resource_from c id Global = under_global c id.auid (bytes_eq id.name index)
 resource_from c id (User xui) = if_held (version_of c id)
 
-leads_from : (c : Content) (id : DocId) (home : Home) → LeadsFrom c id home (resource_from c id home)
+leads_from : (c : Content) (id : DocId) (home : Home) → IsResourceInHome c id home (resource_from c id home)
 leads_from c id Global = leads_under_global c id.auid (bytes_eq id.name index)
 leads_from c id (User xui) = refl
 
-only_from : (c : Content) (id : DocId) (home : Home) (r : Resource) → LeadsFrom c id home r → r ≡ resource_from c id home
+only_from : (c : Content) (id : DocId) (home : Home) (r : Resource) → IsResourceInHome c id home r → r ≡ resource_from c id home
 only_from c id Global r h = only_under_global c id.auid (bytes_eq id.name index) r h
 only_from c id (User xui) r h = h
 

@@ -13,7 +13,7 @@ use Rattle.xml_names.specs.declared.names.Attr.{Attr}
 use Rattle.xml_tree.proofs.PathLemmas.{front-snoc}
 use Rattle.xml_tree.proofs.PlaceLaws.{at-changed}
 use Rattle.xml_tree.proofs.ProperEdits.{around-change_at}
-use Rattle.tree_text.specs.Faults.{BodyAnswer, TextAnswer}
+use Rattle.tree_text.specs.Faults.{IsBodyResult, IsTextResult}
 use Rattle.tree_text.specs.declared.fault.TextFault.{TextFault}
 use Rattle.tree_text.specs.declared.fault.ValueFault.{ValueFault}
 use Rattle.tree_text.proofs.OneAnswer.{one_body, one_text}
@@ -23,24 +23,24 @@ use Rattle.usage_docs.specs.declared.validation.Fault.{Fault}
 use Rattle.usage_docs.proofs.Judgements.{judged_one}
 use Rattle.doc_names.specs.declared.usages.Usage.{Usage}
 use Rattle.doc_names.specs.declared.doc_id.DocId.{DocId}
-use Rattle.node_select.specs.Selection.{SelectsPath, is_attr}
+use Rattle.node_select.specs.Selection.{SelectsPath, is_attr_named}
 use Rattle.node_select.specs.declared.selector.Step.{Step}
 use Rattle.node_select.specs.declared.selector.End.{End}
 use Rattle.node_select.specs.declared.selector.End.TheVariants as ends
 use Rattle.node_select.specs.declared.selector.Selector.{Selector}
 use Rattle.node_select.proofs.Along.{one_path, path_there}
 use Rattle.node_select.proofs.ReachLemmas.{path_is}
-use Rattle.reply_bodies.specs.Nodes.{found_text, node_media, node_text, text_at}
+use Rattle.reply_bodies.specs.Nodes.{found_text, node_media_type, node_text, node_text_at}
 use Rattle.edit_ops.specs.Changes.{edited}
 use Rattle.edit_ops.specs.declared.change.Change.{Change}
 use Rattle.edit_ops.specs.declared.change.Change.TheVariants.{Insert, Replace}
-use Rattle.edit_rules.specs.Attributes.{FindsValue, IsAttrPlan}
-use Rattle.edit_rules.specs.LawfulPlaces.{IsLawfulGap, IsLawfulReplacement}
-use Rattle.edit_rules.specs.Puts.{FromGap, IsInsertion, IsPutPlan}
+use Rattle.edit_rules.specs.AttributePuts.{FindsValue, IsAttrPlan}
+use Rattle.edit_rules.specs.LawfulInsertions.{IsLawfulGap, IsLawfulReplacement}
+use Rattle.edit_rules.specs.ElementPuts.{IsResultOfGap, IsElementInsertion, IsPutPlan}
 use Rattle.edit_rules.specs.Spots.{IsSpotOf}
 use Rattle.usage_docs.specs.declared.validation.Fault.TheVariants.{Invalid}
-use Rattle.edit_rules.specs.declared.refusal.EditRefusal.{EditRefusal}
-use Rattle.edit_rules.specs.declared.refusal.EditRefusal.TheVariants.{CannotInsert, Faulty}
+use Rattle.edit_rules.specs.declared.edit_refusal.EditRefusal.{EditRefusal}
+use Rattle.edit_rules.specs.declared.edit_refusal.EditRefusal.TheVariants.{CannotInsert, Faulty}
 use Rattle.edit_rules.specs.declared.spot.NoParent.{NoParent}
 use Rattle.edit_rules.specs.declared.spot.Spot.{Spot}
 use Rattle.edit_rules.specs.declared.spot.Spot.TheVariants.{Over, Under, Beside, Value}
@@ -48,78 +48,78 @@ use Rattle.edit_rules.proofs.OneAnswer as plans
 use Rattle.edit_rules.proofs.StaysSelected.{scope_kept}
 use Rattle.edit_rules.proofs.Twice.{judged_ok, tested_ok}
 use Rattle.edit_ops.specs.Notes.{Note}
-use Rattle.reply_text.specs.ReplyHeads.{SentReply, plain}
+use Rattle.reply_text.specs.ReplyHeads.{SentReply, plain_reply}
 use Rattle.http_wire.specs.declared.request.Request.{Request}
-use Rattle.request_checks.specs.Conditions.{IsStop}
+use Rattle.request_checks.specs.Conditions.{IsConditionReply}
 use Rattle.request_checks.proofs.ReadConditions.{no_stop}
-use Rattle.request_checks.specs.MediaTypes.{document_media, has_type}
-use Rattle.store_core.specs.DocumentChanges.{Act, Edits, act_of, refusal_of, refusal_of_number, refusal_of_tree, refusal_or, change_result, content_after, document_in, stored_name, note_for, only_if}
+use Rattle.request_checks.specs.MediaTypes.{document_media_type, has_media_type}
+use Rattle.store_core.specs.DocumentChanges.{ChangeKind, Edits, change_kind, refusal_of, refusal_of_number, refusal_of_tree, refusal_or, change_result, contents_after, find_document, stored_id, note_for, refusal_if}
 use Rattle.store_core.specs.Contents.{StoredDocument, StoreContents as Content}
 use Rattle.store_core.specs.ValidStates.{AreDistinct}
 use Rattle.store_core.specs.declared.refusal.StoreRefusal.{StoreRefusal}
 use Rattle.store_core.specs.declared.refusal.StoreRefusal.TheVariants.{NoNumber}
-use Rattle.xcap_machine.specs.Answers.{Answer, unchanged}
-use Rattle.xcap_machine.specs.Effects.{IsUnconditional, LeavesTrees, trees_of}
-use Rattle.xcap_machine.specs.NodeWrites.{PutsAt, PutsFragment, PutsFrom, is_there, levels_for, put_planned, scope_for}
+use Rattle.xcap_machine.specs.Answers.{Answer, reply_only}
+use Rattle.xcap_machine.specs.WriteEffects.{IsUnconditional, PreservesTrees, named_trees}
+use Rattle.xcap_machine.specs.NodeWrites.{PutsAtEditTarget, PutsFragment, PutsByEditTarget, node_exists, max_height_at, planned_put_answer, edit_target_scope}
 use Rattle.xcap_machine.specs.Machine.{content_after_answer}
 use Rattle.xcap_machine.specs.Resources.{version_of}
-use Rattle.xcap_machine.specs.DocumentWrites.{PutsDocument, PutsSpelled, change_answer, put_answer, put_change, put_reply}
-use Rattle.xcap_machine.specs.inner.Cases.{PutsElementText, PutsNodeOf, PutsValueText, PutsText, by_judgement, version_tag as tag_of}
-use Rattle.xcap_machine.specs.inner.Records.{server_of, write_of}
+use Rattle.xcap_machine.specs.DocumentWrites.{PutsDocument, PutsParsedBody, change_answer, put_answer, put_change, put_reply}
+use Rattle.xcap_machine.specs.inner.AnswerCases.{PutsElementText, PutsNodeOfVersion, PutsValueText, PutsParsedText, judgement_answer, version_tag as tag_of}
+use Rattle.xcap_machine.specs.inner.RecordValues.{server_state, node_write}
 use Rattle.xcap_machine.proofs.AcceptedRequests.{match_true, unstopped_by}
 use Rattle.xcap_machine.proofs.After.{same_trees}
 use Rattle.xcap_machine.proofs.Steps.{made_change}
 use Rattle.xcap_machine.proofs.ChangeAnswers.{as_the_store, told_by_store}
-use Rattle.edit_rules.specs.Plans.{IsJudged}
+use Rattle.edit_rules.specs.CheckedChanges.{IsCheckedChange}
 
 -- ---- no condition stops it
 
-pub unstopped : (request : Request) (tag : Option ℕ) (exists : Bool) → IsUnconditional request → IsStop request tag exists false None
+pub unstopped : (request : Request) (tag : Option ℕ) (exists : Bool) → IsUnconditional request → IsConditionReply request tag exists false None
 unstopped request tag exists h = no_stop request tag exists false h.no_match h.no_none_match
 
 -- ---- the change once more
 
 -- a change of a stored document, which leaves its tree and whose tree was accepted, is made, or
 -- its number is too great
-module _ (c : Content) (id : DocId) (change : Change) (h : StoredDocument) (acts : act_of change ≡ Edits) (there : document_in stored_name c.documents id ≡ Some h) (let_in : refusal_of_tree c id false (edited h.tree change) ≡ None) where
+module _ (c : Content) (id : DocId) (change : Change) (h : StoredDocument) (acts : change_kind change ≡ Edits) (there : find_document stored_id c.documents id ≡ Some h) (let_in : refusal_of_tree c id false (edited h.tree change) ≡ None) where
   abbrev note : Note
   note = note_for c id change (Some h)
 
-  changing_is : change_result c id change ≡ refusal_or (refusal_of_number c) note (content_after c id change)
+  changing_is : change_result c id change ≡ refusal_or (refusal_of_number c) note (contents_after c id change)
   changing_is =
-      ap (λ (o : Option StoredDocument). refusal_or (refusal_of c id change o (act_of change)) (note_for c id change o) (content_after c id change)) there
-      ∙ ap (λ (a : Act). refusal_or (refusal_of c id change (Some h) a) note (content_after c id change)) acts
-      ∙ ap (λ (o : Option StoreRefusal). refusal_or (or_else o (refusal_of_number c)) note (content_after c id change)) let_in
+      ap (λ (o : Option StoredDocument). refusal_or (refusal_of c id change o (change_kind change)) (note_for c id change o) (contents_after c id change)) there
+      ∙ ap (λ (a : ChangeKind). refusal_or (refusal_of c id change (Some h) a) note (contents_after c id change)) acts
+      ∙ ap (λ (o : Option StoreRefusal). refusal_or (or_else o (refusal_of_number c)) note (contents_after c id change)) let_in
 
-  by_number : (request : Request) (a : Answer) (reply : Note → SentReply) → ((n : Note) → (reply n).status ≡ 200) → edited h.tree change ≡ h.tree → AreDistinct (map stored_name c.documents)
-      → (b : Bool) → nat_le 18446744073709551616 c.next ≡ b → a ≡ told_by_store id request.closes reply (refusal_or (only_if b NoNumber) note (content_after c id change))
-      → change_result c id change ≡ refusal_or (only_if b NoNumber) note (content_after c id change) → LeavesTrees c request a
-  by_number request a reply ok same apart true e is made = subst (λ (t : Bool). MatchBool t (a ≡ unchanged (plain 507 request.closes)) ((a.reply.status ≡ 200) × (trees_of (content_after_answer c a.made) ≡ trees_of c))) (sym e) is
+  by_number : (request : Request) (a : Answer) (reply : Note → SentReply) → ((n : Note) → (reply n).status ≡ 200) → edited h.tree change ≡ h.tree → AreDistinct (map stored_id c.documents)
+      → (b : Bool) → nat_le 18446744073709551616 c.next ≡ b → a ≡ told_by_store id request.closes reply (refusal_or (refusal_if b NoNumber) note (contents_after c id change))
+      → change_result c id change ≡ refusal_or (refusal_if b NoNumber) note (contents_after c id change) → PreservesTrees c request a
+  by_number request a reply ok same apart true e is made = subst (λ (t : Bool). MatchBool t (a ≡ reply_only (plain_reply 507 request.closes)) ((a.reply.status ≡ 200) × (named_trees (content_after_answer c a.made) ≡ named_trees c))) (sym e) is
   by_number request a reply ok same apart false e is made =
       let next = content_after_answer c a.made in
-      let note_is : note.change ≡ change = made_change c id change note (content_after c id change) made in
-      let here : next ≡ content_after c id change = ap (λ (x : Answer). content_after_answer c x.made) is ∙ ap (λ (x : Change). content_after c id x) note_is in
-      let leaves : (a.reply.status ≡ 200) × (trees_of next ≡ trees_of c) = (ap (λ (x : Answer). x.reply.status) is ∙ ok note, ap trees_of here ∙ same_trees c id change h apart acts there same) in
-      subst (λ (t : Bool). MatchBool t (a ≡ unchanged (plain 507 request.closes)) ((a.reply.status ≡ 200) × (trees_of next ≡ trees_of c))) (sym e) leaves
+      let note_is : note.change ≡ change = made_change c id change note (contents_after c id change) made in
+      let here : next ≡ contents_after c id change = ap (λ (x : Answer). content_after_answer c x.made) is ∙ ap (λ (x : Change). contents_after c id x) note_is in
+      let leaves : (a.reply.status ≡ 200) × (named_trees next ≡ named_trees c) = (ap (λ (x : Answer). x.reply.status) is ∙ ok note, ap named_trees here ∙ same_trees c id change h apart acts there same) in
+      subst (λ (t : Bool). MatchBool t (a ≡ reply_only (plain_reply 507 request.closes)) ((a.reply.status ≡ 200) × (named_trees next ≡ named_trees c))) (sym e) leaves
 
-  pub leaves_trees : (request : Request) (a : Answer) (reply : Note → SentReply) → ((n : Note) → (reply n).status ≡ 200) → edited h.tree change ≡ h.tree → AreDistinct (map stored_name c.documents)
-      → a ≡ change_answer c id change request.closes reply → LeavesTrees c request a
+  pub leaves_trees : (request : Request) (a : Answer) (reply : Note → SentReply) → ((n : Note) → (reply n).status ≡ 200) → edited h.tree change ≡ h.tree → AreDistinct (map stored_id c.documents)
+      → a ≡ change_answer c id change request.closes reply → PreservesTrees c request a
   leaves_trees request a reply ok same apart is =
       by_number request a reply ok same apart (nat_le 18446744073709551616 c.next) refl (is ∙ (as_the_store c id change request.closes reply ∙ ap (told_by_store id request.closes reply) changing_is)) changing_is
 
 -- ---- a document once more
 
-pub document_again : (c : Content) (id : DocId) (usage : Usage) (request : Request) (t : Tree) (tag : ℕ) (b : Answer) → has_type (document_media id.auid) request.fields ≡ true → TextAnswer 64 [] request.body (Ok t) → HasFirstFault usage t None
+pub document_again : (c : Content) (id : DocId) (usage : Usage) (request : Request) (t : Tree) (tag : ℕ) (b : Answer) → has_media_type (document_media_type id.auid) request.fields ≡ true → IsTextResult 64 [] request.body (Ok t) → HasFirstFault usage t None
     → IsUnconditional request → ◌≡◌ {A = Option (Tree × ℕ)} (version_of c id) (Some (t, tag)) → PutsDocument c id usage request b → b ≡ change_answer c id (Replace [] t) request.closes (put_reply true request.closes)
 document_again c id usage request t tag b typed spelled judged free held h =
-    let Body : Type 0 = PutsSpelled usage request (put_answer c id request.closes) b in
-    let body = unstopped_by request (tag_of (version_of c id)) (is_some (version_of c id)) (MatchBool (has_type (document_media id.auid) request.fields) Body (b ≡ unchanged (plain 415 request.closes))) b
+    let Body : Type 0 = PutsParsedBody usage request (put_answer c id request.closes) b in
+    let body = unstopped_by request (tag_of (version_of c id)) (is_some (version_of c id)) (MatchBool (has_media_type (document_media_type id.auid) request.fields) Body (b ≡ reply_only (plain_reply 415 request.closes))) b
     (unstopped request (tag_of (version_of c id)) (is_some (version_of c id)) free) h in
-    let read = match_true (has_type (document_media id.auid) request.fields) Body (b ≡ unchanged (plain 415 request.closes)) typed body in
+    let read = match_true (has_media_type (document_media_type id.auid) request.fields) Body (b ≡ reply_only (plain_reply 415 request.closes)) typed body in
     let same : read.0 ≡ Ok t = one_text 64 [] request.body read.0 (Ok t) read.1 spelled in
-    let here : PutsText usage (Ok t) request.closes (put_answer c id request.closes) b = subst (λ (r : Result Tree TextFault). PutsText usage r request.closes (put_answer c id request.closes) b) same read.2 in
+    let here : PutsParsedText usage (Ok t) request.closes (put_answer c id request.closes) b = subst (λ (r : Result Tree TextFault). PutsParsedText usage r request.closes (put_answer c id request.closes) b) same read.2 in
     let none : here.0 ≡ None = judged_one usage t here.0 None here.1 judged in
-    let answer : b ≡ put_answer c id request.closes t = subst (λ (f : Option Fault). b ≡ by_judgement f request.closes (put_answer c id request.closes t)) none here.2 in
+    let answer : b ≡ put_answer c id request.closes t = subst (λ (f : Option Fault). b ≡ judgement_answer f request.closes (put_answer c id request.closes t)) none here.2 in
     answer ∙ ap (λ (o : Option (Tree × ℕ)). change_answer c id (put_change (is_some o) t) request.closes (put_reply (is_some o) request.closes)) held
 
 -- ---- an element once more: the place
@@ -134,20 +134,20 @@ length_snoc (n ∷ q) i = ap suc (length_snoc q i)
 
 -- the place of what was put has the levels and the scope of its edit target
 pub record SamePlace (t after : Tree) (spot : Spot) (path : List ℕ) : Type 0 where
-  pub levels : levels_for (Over path) ≡ levels_for spot
-  pub scope : scope_for after (Over path) ≡ scope_for t spot
+  pub levels : max_height_at (Over path) ≡ max_height_at spot
+  pub scope : edit_target_scope after (Over path) ≡ edit_target_scope t spot
 
-same_under : (u : Usage) (t : Tree) (steps : List Step) (q : List ℕ) (e : Tree) (change : Change) (path : List ℕ) → IsInsertion (record { usage = u; document = t; steps = steps }) q e (Ok change) → SelectsPath steps (edited t change) path → SamePlace t (edited t change) (Under q) path
+same_under : (u : Usage) (t : Tree) (steps : List Step) (q : List ℕ) (e : Tree) (change : Change) (path : List ℕ) → IsElementInsertion (record { usage = u; document = t; steps = steps }) q e (Ok change) → SelectsPath steps (edited t change) path → SamePlace t (edited t change) (Under q) path
 same_under u t steps q e change path h selects = by h.gap h.is_chosen h.then
   where
-    by : (g : Result ℕ EditRefusal) → IsInsertionPlan CannotInsert (Faulty Invalid) (IsLawfulGap steps t e q) (λ j. usage.IsValidDocument u (put_in q j e t)) (length (child_elements_of h.parent) + 1) g → FromGap (λ gap. IsJudged u t (Insert q gap e)) g (Ok change) → SamePlace t (edited t change) (Under q) path
+    by : (g : Result ℕ EditRefusal) → IsInsertionPlan CannotInsert (Faulty Invalid) (IsLawfulGap steps t e q) (λ j. usage.IsValidDocument u (put_in q j e t)) (length (child_elements_of h.parent) + 1) g → IsResultOfGap (λ gap. IsCheckedChange u t (Insert q gap e)) g (Ok change) → SamePlace t (edited t change) (Under q) path
     by (Err why) chosen then = let z = then in cc
     by (Ok gap) chosen then =
         let j = judged_ok u t (Insert q gap e) change then in
         let lawful : SelectsPath steps (edited t change) (q ++ gap ∷ []) = subst (λ (x : Change). SelectsPath steps (edited t x) (q ++ gap ∷ [])) (sym j.0) chosen.is_lawful in
         let path_is : path ≡ q ++ gap ∷ [] = one_path steps (edited t change) path (q ++ gap ∷ []) selects lawful in
         record {
-          levels = ap (λ (p : List ℕ). levels_for (Over p)) path_is ∙ ap (λ (n : ℕ). 64 - n) (length_snoc q gap);
+          levels = ap (λ (p : List ℕ). max_height_at (Over p)) path_is ∙ ap (λ (n : ℕ). 64 - n) (length_snoc q gap);
           scope =
               ap (λ (p : List ℕ). scope_around p (edited t change)) path_is ∙ around_snoc q gap (edited t change) ∙ ap (λ (x : Change). scope_at q (edited t x)) j.0
               ∙ scope_kept q (put_kid gap e) (λ x. refl) t;
@@ -170,7 +170,7 @@ same_place u t steps (Over p) e change path plan selects =
     let there : SelectsPath steps (edited t change) p = subst (λ (x : Change). SelectsPath steps (edited t x) p) (sym m.is) m.is_lawful in
     let path_is : path ≡ p = one_path steps (edited t change) path p selects there in
     record {
-      levels = ap (λ (q : List ℕ). levels_for (Over q)) path_is;
+      levels = ap (λ (q : List ℕ). max_height_at (Over q)) path_is;
       scope = ap (λ (q : List ℕ). scope_around q (edited t change)) path_is ∙ ap (λ (x : Change). scope_around p (edited t x)) m.is ∙ kept_around p e t (path_there steps (put_over p e t) p m.is_lawful);
     }
 same_place u t steps (Under q) e change path plan selects = same_under u t steps q e change path plan selects
@@ -180,51 +180,51 @@ same_place u t steps (Value p) e change path plan selects = absurd plan
 -- ---- a node once more
 
 -- an address that selects something is there
-there_by : (t : Tree) (selector : Selector) (p : List ℕ) (o : Option (List ℕ)) → SelectsPath selector.steps t p → text_at selector.end p t ≡ o → is_some o ≡ true → is_there t selector ≡ true
+there_by : (t : Tree) (selector : Selector) (p : List ℕ) (o : Option (List ℕ)) → SelectsPath selector.steps t p → node_text_at selector.end p t ≡ o → is_some o ≡ true → node_exists t selector ≡ true
 there_by t selector p o selects is some =
-    let found : found_text t selector ≡ o = ap (λ (x : Option (List ℕ)). option_and_then (λ q. text_at selector.end q t) x) ((path_is selector.steps t p).1 selects) ∙ is in
+    let found : found_text t selector ≡ o = ap (λ (x : Option (List ℕ)). option_and_then (λ q. node_text_at selector.end q t) x) ((path_is selector.steps t p).1 selects) ∙ is in
     ap is_some found ∙ some
 
-pub element_there : (t : Tree) (selector : Selector) (p : List ℕ) (e : Tree) → selector.end ≡ ends.Element → SelectsPath selector.steps t p → at p t ≡ Some e → is_there t selector ≡ true
+pub element_there : (t : Tree) (selector : Selector) (p : List ℕ) (e : Tree) → selector.end ≡ ends.Element → SelectsPath selector.steps t p → at p t ≡ Some e → node_exists t selector ≡ true
 element_there t selector p e ends_so selects there =
-    there_by t selector p (text_at ends.Element p t) selects (ap (λ (end : End). text_at end p t) ends_so) (ap (λ (o : Option Tree). is_some (option_and_then (node_text ends.Element (scope_at p t)) o)) there)
+    there_by t selector p (node_text_at ends.Element p t) selects (ap (λ (end : End). node_text_at end p t) ends_so) (ap (λ (o : Option Tree). is_some (option_and_then (node_text ends.Element (scope_at p t)) o)) there)
 
-value_there : (t : Tree) (selector : Selector) (p uri local value : List ℕ) → selector.end ≡ ends.Attribute uri local → FindsValue selector.steps (record { path = p; uri = uri; local = local }) t value → is_there t selector ≡ true
+value_there : (t : Tree) (selector : Selector) (p uri local value : List ℕ) → selector.end ≡ ends.Attribute uri local → FindsValue selector.steps (record { path = p; uri = uri; local = local }) t value → node_exists t selector ≡ true
 value_there t selector p uri local value ends_so finds =
     let end : End = ends.Attribute uri local in
-    there_by t selector p (text_at end p t) finds.selects (ap (λ (x : End). text_at x p t) ends_so)
-    (ap (λ (o : Option Tree). is_some (option_and_then (node_text end (scope_at p t)) o)) finds.there ∙ by (find (is_attr (scope_at p t) uri local) finds.element.attrs) finds.has)
+    there_by t selector p (node_text_at end p t) finds.selects (ap (λ (x : End). node_text_at x p t) ends_so)
+    (ap (λ (o : Option Tree). is_some (option_and_then (node_text end (scope_at p t)) o)) finds.there ∙ by (find (is_attr_named (scope_at p t) uri local) finds.element.attrs) finds.has)
   where
     by : (o : Option Attr) → option_map (λ (a : Attr). a.value) o ≡ Some value → is_some (option_map (λ (attr : Attr). body_print attr.value) o) ≡ true
     by None h = cc
     by (Some a) h = refl
 
-module _ (c : Content) (id : DocId) (usage : Usage) (selector : Selector) (t : Tree) (request : Request) (b : Answer) (typed : has_type (node_media selector.end) request.fields ≡ true) (free : IsUnconditional request) where
+module _ (c : Content) (id : DocId) (usage : Usage) (selector : Selector) (t : Tree) (request : Request) (b : Answer) (typed : has_media_type (node_media_type selector.end) request.fields ≡ true) (free : IsUnconditional request) where
   -- where the edit target is this one, the answer is the one for it
-  put_at : (root : List ℕ) (tag : ℕ) (spot : Spot) → IsSpotOf t selector spot → PutsNodeOf (server_of root c) (write_of id usage selector request) (t, tag) b → PutsAt c (write_of id usage selector request) t spot b
+  put_at : (root : List ℕ) (tag : ℕ) (spot : Spot) → IsSpotOf t selector spot → PutsNodeOfVersion (server_state root c) (node_write id usage selector request) (t, tag) b → PutsAtEditTarget c (node_write id usage selector request) t spot b
   put_at root tag spot place h =
       let same : h.0 ≡ Ok spot = plans.one_spot t selector h.0 (Ok spot) h.1 place in
-      let here : PutsFrom (server_of root c) (write_of id usage selector request) (t, tag) (Ok spot) b = subst (λ (r : Result Spot NoParent). PutsFrom (server_of root c) (write_of id usage selector request) (t, tag) r b) same h.2 in
-      let fragment = unstopped_by request (Some tag) (is_there t selector) (PutsFragment c (write_of id usage selector request) t spot b) b (unstopped request (Some tag) (is_there t selector) free) here in
-      match_true (has_type (node_media selector.end) request.fields) (PutsAt c (write_of id usage selector request) t spot b) (b ≡ unchanged (plain 415 request.closes)) typed fragment
+      let here : PutsByEditTarget (server_state root c) (node_write id usage selector request) (t, tag) (Ok spot) b = subst (λ (r : Result Spot NoParent). PutsByEditTarget (server_state root c) (node_write id usage selector request) (t, tag) r b) same h.2 in
+      let fragment = unstopped_by request (Some tag) (node_exists t selector) (PutsFragment c (node_write id usage selector request) t spot b) b (unstopped request (Some tag) (node_exists t selector) free) here in
+      match_true (has_media_type (node_media_type selector.end) request.fields) (PutsAtEditTarget c (node_write id usage selector request) t spot b) (b ≡ reply_only (plain_reply 415 request.closes)) typed fragment
 
-  planned : (r : Result Change EditRefusal) (change : Change) → r ≡ Ok change → is_there t selector ≡ true → b ≡ put_planned c (write_of id usage selector request) t r → b ≡ change_answer c id change request.closes (put_reply true request.closes)
+  planned : (r : Result Change EditRefusal) (change : Change) → r ≡ Ok change → node_exists t selector ≡ true → b ≡ planned_put_answer c (node_write id usage selector request) t r → b ≡ change_answer c id change request.closes (put_reply true request.closes)
   planned r change same there is =
-      is ∙ ap (λ (x : Result Change EditRefusal). put_planned c (write_of id usage selector request) t x) same ∙ ap (λ (x : Bool). change_answer c id change request.closes (put_reply x request.closes)) there
+      is ∙ ap (λ (x : Result Change EditRefusal). planned_put_answer c (node_write id usage selector request) t x) same ∙ ap (λ (x : Bool). change_answer c id change request.closes (put_reply x request.closes)) there
 
   pub element_again : (root : List ℕ) (tag : ℕ) (p : List ℕ) (e : Tree) → IsSpotOf t selector (Over p) → IsPutPlan (record { usage = usage; document = t; steps = selector.steps }) (Over p) e (Ok (Replace p e)) → at p t ≡ Some e
-      → TextAnswer (levels_for (Over p)) (scope_for t (Over p)) request.body (Ok e) → PutsNodeOf (server_of root c) (write_of id usage selector request) (t, tag) b → b ≡ change_answer c id (Replace p e) request.closes (put_reply true request.closes)
+      → IsTextResult (max_height_at (Over p)) (edit_target_scope t (Over p)) request.body (Ok e) → PutsNodeOfVersion (server_state root c) (node_write id usage selector request) (t, tag) b → b ≡ change_answer c id (Replace p e) request.closes (put_reply true request.closes)
   element_again root tag p e place plan there spelled h =
       let here = put_at root tag (Over p) place h in
-      let same : here.0 ≡ Ok e = one_text (levels_for (Over p)) (scope_for t (Over p)) request.body here.0 (Ok e) here.1 spelled in
-      let text : PutsElementText c (write_of id usage selector request) t (Over p) (Ok e) b = subst (λ (r : Result Tree TextFault). PutsElementText c (write_of id usage selector request) t (Over p) r b) same here.2 in
+      let same : here.0 ≡ Ok e = one_text (max_height_at (Over p)) (edit_target_scope t (Over p)) request.body here.0 (Ok e) here.1 spelled in
+      let text : PutsElementText c (node_write id usage selector request) t (Over p) (Ok e) b = subst (λ (r : Result Tree TextFault). PutsElementText c (node_write id usage selector request) t (Over p) r b) same here.2 in
       planned text.0 (Replace p e) (plans.one_put usage t selector.steps (Over p) e text.0 (Ok (Replace p e)) text.1 plan) (element_there t selector p e place.0 place.1 there) text.2
 
   pub value_again : (root : List ℕ) (tag : ℕ) (p uri local value : List ℕ) (change : Change) → selector.end ≡ ends.Attribute uri local → IsSpotOf t selector (Value p) → IsAttrPlan (record { usage = usage; document = t; steps = selector.steps }) (ends.Attribute uri local) p value (Ok change)
-      → FindsValue selector.steps (record { path = p; uri = uri; local = local }) t value → BodyAnswer request.body (Ok value) → PutsNodeOf (server_of root c) (write_of id usage selector request) (t, tag) b → b ≡ change_answer c id change request.closes (put_reply true request.closes)
+      → FindsValue selector.steps (record { path = p; uri = uri; local = local }) t value → IsBodyResult request.body (Ok value) → PutsNodeOfVersion (server_state root c) (node_write id usage selector request) (t, tag) b → b ≡ change_answer c id change request.closes (put_reply true request.closes)
   value_again root tag p uri local value change ends_so place plan finds spelled h =
       let here = put_at root tag (Value p) place h in
       let same : here.0 ≡ Ok value = one_body request.body here.0 (Ok value) here.1 spelled in
-      let text : PutsValueText c (write_of id usage selector request) t p (Ok value) b = subst (λ (r : Result (List ℕ) ValueFault). PutsValueText c (write_of id usage selector request) t p r b) same here.2 in
+      let text : PutsValueText c (node_write id usage selector request) t p (Ok value) b = subst (λ (r : Result (List ℕ) ValueFault). PutsValueText c (node_write id usage selector request) t p r b) same here.2 in
       let plan_so : IsAttrPlan (record { usage = usage; document = t; steps = selector.steps }) selector.end p value (Ok change) = subst (λ (end : End). IsAttrPlan (record { usage = usage; document = t; steps = selector.steps }) end p value (Ok change)) (sym ends_so) plan in
       planned text.0 change (plans.one_attr usage t selector.steps selector.end p value text.0 (Ok change) text.1 plan_so) (value_there t selector p uri local value ends_so finds) text.2

@@ -5,23 +5,23 @@ use Rattle.reply_bodies.specs.Conflicts.{conflict_bytes}
 use Rattle.reply_bodies.specs.declared.conflicts.ErrorBody.{ErrorBody}
 use Rattle.doc_names.specs.declared.doc_id.DocId.{DocId}
 use Rattle.edit_ops.specs.Notes.{Note}
-use Rattle.reply_text.specs.ReplyHeads.{SentReply, sent}
+use Rattle.reply_text.specs.ReplyHeads.{SentReply, sent_reply}
 use Rattle.reply_text.specs.declared.media_types.MediaType.{MediaType}
 use Rattle.reply_text.specs.declared.media_types.MediaType.TheVariants as media
 use Rattle.http_wire.specs.declared.request.Request.{Request}
-use Rattle.request_checks.specs.Conditions.{IsStop}
+use Rattle.request_checks.specs.Conditions.{IsConditionReply}
 
 -- a change that is made: the document's name, and the record of the change
-abbrev pub Made : Type 0
-Made = DocId × Note
+abbrev pub MadeChange : Type 0
+MadeChange = DocId × Note
 
 pub record Answer : Type 0 where
   pub reply : SentReply
-  pub made : Option Made
+  pub made : Option MadeChange
 
 -- a reply alone: nothing is changed
-abbrev pub unchanged : SentReply → Answer
-unchanged reply = record { reply = reply; made = None }
+abbrev pub reply_only : SentReply → Answer
+reply_only reply = record { reply = reply; made = None }
 
 -- what conditions are tested against: the tag of the document, if it is stored, and whether the
 -- resource is there (RFC 9110, section 13.1)
@@ -31,17 +31,17 @@ pub record Representation : Type 0 where
 
 -- the reply of a request's conditions, or what follows where they pass; by whether the request
 -- reads (RFC 9110, section 13.2)
-abbrev pub AfterConditions : Request → Representation → Bool → Answer → Type 0 → Type 0
-AfterConditions request current reading a GoesOn =
-    (stop : Option SentReply) × IsStop request current.tag current.exists reading stop
-    × MatchOption stop GoesOn (λ reply. a ≡ unchanged reply)
+abbrev pub AppliesConditions : Request → Representation → Bool → Answer → Type 0 → Type 0
+AppliesConditions request current reading a GoesOn =
+    (stop : Option SentReply) × IsConditionReply request current.tag current.exists reading stop
+    × MatchOption stop GoesOn (λ reply. a ≡ reply_only reply)
 
 -- ---- replies
 
 -- the resource doesn't allow the method (RFC 9110, section 15.5.6)
-abbrev pub not_allowed : Bool → Bool → SentReply
-not_allowed read_only closes =
-    sent (record {
+abbrev pub not_allowed_reply : Bool → Bool → SentReply
+not_allowed_reply read_only closes =
+    sent_reply (record {
       status = 405;
       tag = None;
       read_only = Some read_only;
@@ -52,9 +52,9 @@ not_allowed read_only closes =
     []
 
 -- a conflict, with its error document (RFC 4825, section 11)
-abbrev pub conflict : ErrorBody → Bool → SentReply
-conflict body closes =
-    sent (record {
+abbrev pub error_reply : ErrorBody → Bool → SentReply
+error_reply body closes =
+    sent_reply (record {
       status = 409;
       tag = None;
       read_only = None;
@@ -65,9 +65,9 @@ conflict body closes =
     (conflict_bytes body)
 
 -- a status with the tag of a document (RFC 4825, section 8.5)
-abbrev pub tagged : ℕ → ℕ → Bool → SentReply
-tagged status tag closes =
-    sent (record {
+abbrev pub tagged_reply : ℕ → ℕ → Bool → SentReply
+tagged_reply status tag closes =
+    sent_reply (record {
       status = status;
       tag = Some tag;
       read_only = None;
@@ -78,9 +78,9 @@ tagged status tag closes =
     []
 
 -- a text of this media type, with the document's tag, if it has one
-abbrev pub found : Option ℕ → MediaType → List ℕ → Bool → SentReply
-found tag m body closes =
-    sent (record {
+abbrev pub found_reply : Option ℕ → MediaType → List ℕ → Bool → SentReply
+found_reply tag m body closes =
+    sent_reply (record {
       status = 200;
       tag = tag;
       read_only = None;

@@ -9,14 +9,14 @@ use Rattle.std.specs.Option.{option_map_or}
 use Rattle.xml_tree.specs.PathTexts.{path_text}
 use Rattle.xml_tree.specs.Tree.{Tree}
 use Rattle.xml_names.specs.declared.limits.TheConstants.{MAX_LEVELS}
-use Rattle.tree_text.specs.Faults.{TextAnswer}
+use Rattle.tree_text.specs.Faults.{IsTextResult}
 use Rattle.tree_text.specs.declared.fault.TextFault.{TextFault}
 use Rattle.tree_text.specs.declared.fault.TextFault.TheVariants as texts
 use Rattle.usage_docs.specs.Validation.{HasFirstFault}
-use Rattle.usage_docs.specs.Keys.{word}
+use Rattle.usage_docs.specs.KeyAttributes.{attribute_name}
 use Rattle.usage_docs.specs.declared.validation.Fault.{Fault}
 use Rattle.usage_docs.specs.declared.validation.Fault.TheVariants.{Invalid, Unformed, Repeated}
-use Rattle.usage_docs.specs.declared.keys.Clash.{Clash}
+use Rattle.usage_docs.specs.declared.key_repeats.Clash.{Clash}
 use Rattle.doc_names.specs.declared.usages.Usage.{Usage}
 use Rattle.doc_names.specs.declared.doc_id.Auid.{Auid}
 use Rattle.doc_names.specs.declared.doc_id.Home.{Home}
@@ -27,24 +27,26 @@ use Rattle.edit_ops.specs.declared.change.Change.TheVariants.{RemoveDocument}
 use Rattle.edit_ops.specs.Notes.{Note}
 use Rattle.reply_bodies.specs.declared.conflicts.ErrorBody.{ErrorBody}
 use Rattle.reply_bodies.specs.declared.conflicts.ErrorBody.TheVariants as conflicts
-use Rattle.reply_text.specs.ReplyHeads.{SentReply, plain}
+use Rattle.reply_text.specs.ReplyHeads.{SentReply, plain_reply}
 use Rattle.reply_text.specs.declared.media_types.MediaType.{MediaType}
 use Rattle.http_wire.specs.declared.request.Request.{Request}
-use Rattle.request_checks.specs.MediaTypes.{document_media, has_type}
+use Rattle.request_checks.specs.MediaTypes.{document_media_type, has_media_type}
 use Rattle.xcap_uri.specs.Ancestors.{home_uri}
-use Rattle.store_core.specs.DocumentChanges.{act_of, refusal_of, document_in, stored_name, note_for}
+use Rattle.store_core.specs.DocumentChanges.{change_kind, refusal_of, find_document, stored_id}
+use Rattle.store_core.specs.DocumentChanges.{note_for}
 use Rattle.store_core.specs.declared.refusal.StoreRefusal.{StoreRefusal}
 use Rattle.store_core.specs.declared.refusal.StoreRefusal.TheVariants.{ServiceTaken}
 use Rattle.store_core.specs.Contents.{StoreContents}
-use Rattle.xcap_machine.specs.Answers.{Answer, AfterConditions, unchanged, conflict, tagged}
+use Rattle.xcap_machine.specs.Answers.{Answer, AppliesConditions, reply_only, error_reply}
+use Rattle.xcap_machine.specs.Answers.{tagged_reply}
 use Rattle.xcap_machine.specs.Resources.{version_of}
 
 -- ---- what stops a request that writes
 
 -- in a usage that stores no documents, writing is forbidden
-abbrev pub IfStored : Option Usage → Request → Answer → (Usage → Type 0) → Type 0
-IfStored None request a Writes = a ≡ unchanged (plain 403 request.closes)
-IfStored (Some usage) request a Writes = Writes usage
+abbrev pub WritesIfStored : Option Usage → Request → Answer → (Usage → Type 0) → Type 0
+WritesIfStored None request a Writes = a ≡ reply_only (plain_reply 403 request.closes)
+WritesIfStored (Some usage) request a Writes = Writes usage
 
 -- ---- texts that can't be parsed
 
@@ -57,7 +59,7 @@ text_conflict malformed _ = malformed
 
 -- the place of a clash, as the error document has it: the path of the element, and its key
 abbrev pub clash_field : Clash → List ℕ
-clash_field clash = path_text clash.path ++ (codes "/@" ++ word clash.key)
+clash_field clash = path_text clash.path ++ (codes "/@" ++ attribute_name clash.key)
 
 -- the conflict of a tree that is no document of its usage
 abbrev pub fault_conflict : Fault → ErrorBody
@@ -70,23 +72,24 @@ fault_conflict (Repeated clash) = conflicts.Unique (clash_field clash)
 -- a service address that another document has is a conflict; a limit of the store is 507 (RFC
 -- 4918, section 11.5)
 abbrev pub refusal_reply : StoreRefusal → Bool → SentReply
-refusal_reply (ServiceTaken clash) closes = conflict (conflicts.Unique (clash_field clash)) closes
-refusal_reply _ closes = plain 507 closes
+refusal_reply (ServiceTaken clash) closes =
+    error_reply (conflicts.Unique (clash_field clash)) closes
+refusal_reply _ closes = plain_reply 507 closes
 
 -- the answer to a change of a document: it is refused by the first reason against it, or made, and
 -- the reply is made from its record
 abbrev pub change_answer : StoreContents → DocId → Change → Bool → (Note → SentReply) → Answer
 change_answer c id change closes reply =
-    let held = document_in stored_name c.documents id in
+    let held = find_document stored_id c.documents id in
     let note = note_for c id change held in
-    option_map_or (λ refusal. unchanged (refusal_reply refusal closes))
-    (refusal_of c id change held (act_of change))
+    option_map_or (λ refusal. reply_only (refusal_reply refusal closes))
+    (refusal_of c id change held (change_kind change))
     (record { reply = reply note; made = Some (id, note) })
 
 -- the reply to a PUT: the resource is new, or replaces the old one; the document's new tag is the
 -- number of the change
 abbrev pub put_reply : Bool → Bool → Note → SentReply
-put_reply exists closes note = tagged (if exists then 200 else 201) note.next closes
+put_reply exists closes note = tagged_reply (if exists then 200 else 201) note.next closes
 
 -- ---- PUT of documents (RFC 4825, sections 8.2.2 to 8.2.5)
 
@@ -103,45 +106,47 @@ put_answer c id closes t =
 
 -- the answer to a body that is parsed as a tree of at most `MAX_LEVELS` levels, which has a fault
 -- as a document of the usage, or none; or the body has a fault
-abbrev pub PutsSpelled : Usage → Request → (Tree → Answer) → Answer → Type 0
-PutsSpelled usage request answer a =
-    (read : Result Tree TextFault) × TextAnswer MAX_LEVELS [] request.body read
+abbrev pub PutsParsedBody : Usage → Request → (Tree → Answer) → Answer → Type 0
+PutsParsedBody usage request answer a =
+    (read : Result Tree TextFault) × IsTextResult MAX_LEVELS [] request.body read
     × MatchResult read
     (λ t.
     (judgement : Option Fault) × HasFirstFault usage t judgement
     × (a
-    ≡ option_map_or (λ fault. unchanged (conflict (fault_conflict fault) request.closes)) judgement
+    ≡ option_map_or (λ fault. reply_only (error_reply (fault_conflict fault) request.closes))
+    judgement
     (answer t)))
-    (λ fault. a ≡ unchanged (conflict (text_conflict conflicts.NotWellFormed fault) request.closes))
+    (λ fault. a ≡ reply_only
+    (error_reply (text_conflict conflicts.NotWellFormed fault) request.closes))
 
 -- the body has the usage's media type
 abbrev pub PutsBody : Usage → MediaType → Request → (Tree → Answer) → Answer → Type 0
 PutsBody usage media request answer a =
-    MatchBool (has_type media request.fields)
-    (PutsSpelled usage request answer a)
-    (a ≡ unchanged (plain 415 request.closes))
+    MatchBool (has_media_type media request.fields)
+    (PutsParsedBody usage request answer a)
+    (a ≡ reply_only (plain_reply 415 request.closes))
 
 abbrev pub PutsDocument : StoreContents → DocId → Usage → Request → Answer → Type 0
 PutsDocument c id usage request a =
     let version = version_of c id in
     let tag : Option ℕ = option_map (λ held. held.1) version in
-    AfterConditions request (record { tag = tag; exists = is_some version }) false a
-    (PutsBody usage (document_media id.auid) request (put_answer c id request.closes) a)
+    AppliesConditions request (record { tag = tag; exists = is_some version }) false a
+    (PutsBody usage (document_media_type id.auid) request (put_answer c id request.closes) a)
 
 -- no document is deeper than directly in a home (RFC 4825, section 8.2.1)
 abbrev pub missing_parent_answer : List ℕ → Auid → Home → Request → Answer
 missing_parent_answer root auid home request =
-    unchanged (conflict (conflicts.NoParent (home_uri root auid home)) request.closes)
+    reply_only (error_reply (conflicts.NoParent (home_uri root auid home)) request.closes)
 
 -- ---- DELETE of documents (RFC 4825, section 8.4)
 
 -- the reply to a DELETE of a document, which has no tag
-abbrev pub deleted_reply : Bool → Note → SentReply
-deleted_reply closes note = plain 200 closes
+abbrev pub delete_reply : Bool → Note → SentReply
+delete_reply closes note = plain_reply 200 closes
 
 -- by whether the document is stored
 abbrev pub DeletesDocument : StoreContents → DocId → Request → Answer → Type 0
 DeletesDocument c id request a =
-    MatchOption (version_of c id) (a ≡ unchanged (plain 404 request.closes)) (λ held.
-    AfterConditions request (record { tag = Some held.1; exists = true }) false a
-    (a ≡ change_answer c id RemoveDocument request.closes (deleted_reply request.closes)))
+    MatchOption (version_of c id) (a ≡ reply_only (plain_reply 404 request.closes)) (λ held.
+    AppliesConditions request (record { tag = Some held.1; exists = true }) false a
+    (a ≡ change_answer c id RemoveDocument request.closes (delete_reply request.closes)))

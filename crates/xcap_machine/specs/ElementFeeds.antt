@@ -3,15 +3,15 @@
 -- that neither conditions nor tags apply to it, is this server's own.
 use Rattle.std.specs.Prelude.{◌≡◌, ℕ}
 use Rattle.xml_tree.specs.Tree.{Tree}
-use Rattle.doc_names.specs.Ids.{id_text}
-use Rattle.reply_text.specs.ReplyHeads.{plain}
+use Rattle.doc_names.specs.DocIds.{id_text}
+use Rattle.reply_text.specs.ReplyHeads.{plain_reply}
 use Rattle.patch_rules.specs.Notices.{gone_notice}
 use Rattle.store_core.specs.Since.{ChangesSince, Gone, Unknown, ReportedChanges, since}
 use Rattle.element_watch.specs.WatchedElements.{IsElementNotice, WatchedElement}
-use Rattle.xcap_machine.specs.Answers.{Answer, unchanged}
+use Rattle.xcap_machine.specs.Answers.{Answer, reply_only}
 use Rattle.xcap_machine.specs.Feeds.{sends_notice}
 use Rattle.xcap_machine.specs.ReadRequests.{ReadRequest}
-use Rattle.xcap_machine.specs.Servers.{ServerState}
+use Rattle.xcap_machine.specs.ServerStates.{ServerState}
 
 -- the feed of an element: the tag of the version that the client has, and the element
 pub record ElementQuery : Type 0 where
@@ -20,15 +20,16 @@ pub record ElementQuery : Type 0 where
 
 -- the answer by the result of the since-query: the document is gone; the changes since the tag are
 -- no longer known; or the diff document of the element
-abbrev pub TellsElement : ServerState → ElementQuery → ChangesSince → ReadRequest → Answer → Type 0
-TellsElement server query Gone get a =
+abbrev pub AnswersElementQuery : ServerState → ElementQuery → ChangesSince → ReadRequest → Answer
+    → Type 0
+AnswersElementQuery server query Gone get a =
     a ≡ sends_notice (gone_notice server.root (id_text query.watched.doc) query.tag) get
-TellsElement server query Unknown get a = a ≡ unchanged (plain 410 get.request.closes)
-TellsElement server query (ReportedChanges ns) get a =
+AnswersElementQuery server query Unknown get a = a ≡ reply_only (plain_reply 410 get.request.closes)
+AnswersElementQuery server query (ReportedChanges ns) get a =
     (notice : Tree) × IsElementNotice server.root query.watched server.content ns notice
     × (a ≡ sends_notice notice get)
 
 -- GET or HEAD of the feed of an element
 abbrev pub ReadsElementFeed : ServerState → ElementQuery → ReadRequest → Answer → Type 0
 ReadsElementFeed server query get a =
-    TellsElement server query (since server.content query.watched.doc query.tag) get a
+    AnswersElementQuery server query (since server.content query.watched.doc query.tag) get a

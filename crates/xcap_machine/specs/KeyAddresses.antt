@@ -7,15 +7,15 @@ use Rattle.doc_names.specs.declared.usages.Usage.{Usage}
 use Rattle.edit_ops.specs.Changes.{edited}
 use Rattle.edit_ops.specs.declared.change.Change.{Change}
 use Rattle.edit_rules.specs.KeyWrites.{KeepsKeyAddresses}
-use Rattle.store_core.specs.DocumentChanges.{document_in, stored_name}
+use Rattle.store_core.specs.DocumentChanges.{find_document, stored_id}
 use Rattle.store_core.specs.Contents.{StoredDocument, StoreContents}
 
 -- a change from contents to the next contents: if the document is stored in both and of this
 -- application usage, it then has the edited tree, and the change preserves what the document's key
 -- addresses select
-abbrev pub KeepsAddressesOf : StoreContents → DocId → Change → StoreContents → Type 0
-KeepsAddressesOf c id change next =
+abbrev pub ChangeKeepsKeyAddresses : StoreContents → DocId → Change → StoreContents → Type 0
+ChangeKeepsKeyAddresses c id change next =
     (usage : Usage) (before after : StoredDocument) → usage_of id.auid ≡ Some usage
-    → document_in stored_name c.documents id ≡ Some before
-    → document_in stored_name next.documents id ≡ Some after
+    → find_document stored_id c.documents id ≡ Some before
+    → find_document stored_id next.documents id ≡ Some after
     → (after.tree ≡ edited before.tree change) × KeepsKeyAddresses usage before.tree change

@@ -4,32 +4,32 @@ use Rattle.std.specs.Prelude.{◌≡◌, ℕ, List, Option, None, Some, option_m
 use Rattle.edit_ops.specs.declared.edit.Edit.{Edit}
 use Rattle.reply_text.specs.ReplyHeads.{SentReply}
 use Rattle.http_wire.specs.declared.request.Request.{Request}
-use Rattle.store_core.specs.DocumentChanges.{after, content_after}
-use Rattle.store_core.specs.Contents.{StoreContents, stock_of}
+use Rattle.store_core.specs.DocumentChanges.{state_after, contents_after}
+use Rattle.store_core.specs.Contents.{StoreContents, contents_of}
 use Rattle.store_core.specs.ValidStates.{IsValidState}
 use Rattle.store_core.specs.State.{State}
-use Rattle.xcap_machine.specs.Answers.{Answer, Made}
+use Rattle.xcap_machine.specs.Answers.{Answer, MadeChange}
 use Rattle.xcap_machine.specs.Requests.{IsAnswer}
 
 -- the state after a change, if there is one
-abbrev pub after_answer : State → Option Made → State
-after_answer m None = m
-after_answer m (Some made) = after m made.0 made.1.change
+abbrev pub state_after_answer : State → Option MadeChange → State
+state_after_answer m None = m
+state_after_answer m (Some made) = state_after m made.0 made.1.change
 
 -- the change that watchers are notified of
-abbrev pub made_from : Edit → Made
-made_from e = (e.doc, e.note)
+abbrev pub change_from_edit : Edit → MadeChange
+change_from_edit e = (e.doc, e.note)
 
 -- the answer with a reply, and with the change of an edit, if there is one
-abbrev pub answer_as : SentReply → Option Edit → Answer
-answer_as reply edit = record { reply = reply; made = option_map made_from edit }
+abbrev pub answer_with_edit : SentReply → Option Edit → Answer
+answer_with_edit reply edit = record { reply = reply; made = option_map change_from_edit edit }
 
 -- The step of the machine of this root: in the state `m`, a request gets this reply, the machine
 -- is then in the state `next`, and watchers are notified of this edit, if a change was made.
 pub record Step (root : List ℕ) (m : State) (request : Request) (reply : SentReply) (next : State)
     (edit : Option Edit) : Type 0 where
-  pub answers : IsAnswer root (stock_of m) request (answer_as reply edit)
-  pub goes_on : next ≡ after_answer m (option_map made_from edit)
+  pub answers : IsAnswer root (contents_of m) request (answer_with_edit reply edit)
+  pub goes_on : next ≡ state_after_answer m (option_map change_from_edit edit)
 
 -- a step from a valid state to a valid state
 abbrev pub ValidStep : List ℕ → State → Request → SentReply → State → Option Edit → Type 0
@@ -39,13 +39,13 @@ ValidStep root m request reply next edit =
 -- ---- the step on store contents, on which alone an answer depends
 
 -- the contents after a change, if there is one
-abbrev pub content_after_answer : StoreContents → Option Made → StoreContents
+abbrev pub content_after_answer : StoreContents → Option MadeChange → StoreContents
 content_after_answer c None = c
-content_after_answer c (Some made) = content_after c made.0 made.1.change
+content_after_answer c (Some made) = contents_after c made.0 made.1.change
 
 -- On the contents `c`, a request gets this reply, watchers are notified of this edit, if a change
 -- was made, and the contents are then `next`.
-pub record Does (root : List ℕ) (c : StoreContents) (request : Request) (reply : SentReply)
+pub record ContentStep (root : List ℕ) (c : StoreContents) (request : Request) (reply : SentReply)
     (next : StoreContents) (edit : Option Edit) : Type 0 where
-  pub answers : IsAnswer root c request (answer_as reply edit)
-  pub goes_on : next ≡ content_after_answer c (option_map made_from edit)
+  pub answers : IsAnswer root c request (answer_with_edit reply edit)
+  pub goes_on : next ≡ content_after_answer c (option_map change_from_edit edit)

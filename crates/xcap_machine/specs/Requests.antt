@@ -7,12 +7,12 @@ use Rattle.std.specs.Bool.{MatchBool}
 use Rattle.store_core.specs.Contents.{StoreContents}
 use Rattle.node_select.specs.declared.selector.End.{End}
 use Rattle.node_select.specs.declared.selector.End.TheVariants.{Namespaces}
-use Rattle.xcap_uri.specs.Targets.{TargetResult}
+use Rattle.xcap_uri.specs.Targets.{IsTargetResult}
 use Rattle.doc_names.specs.declared.doc_id.Auid.{Auid}
 use Rattle.doc_names.specs.declared.doc_id.Home.{Home}
 use Rattle.doc_names.specs.Usages.{usage_of}
 use Rattle.doc_names.specs.declared.usages.Usage.{Usage}
-use Rattle.reply_text.specs.ReplyHeads.{plain}
+use Rattle.reply_text.specs.ReplyHeads.{plain_reply}
 use Rattle.xcap_uri.specs.declared.fault.UriFault.{UriFault}
 use Rattle.xcap_uri.specs.declared.fault.UriFault.TheVariants.{OutsideRoot, UnknownAuid}
 use Rattle.xcap_uri.specs.declared.target.Target.{Target}
@@ -23,15 +23,15 @@ use Rattle.request_checks.specs.declared.method.Method.{Method}
 use Rattle.request_checks.specs.declared.method.Method.TheVariants.{Get, Head, Put, Delete, Other}
 use Rattle.request_checks.specs.Methods.{method_of, is_reading}
 use Rattle.request_checks.specs.Rights.{is_allowed}
-use Rattle.xcap_machine.specs.Answers.{Answer, unchanged, not_allowed}
+use Rattle.xcap_machine.specs.Answers.{Answer, reply_only, not_allowed_reply}
 use Rattle.xcap_machine.specs.ElementFeeds.{ReadsElementFeed}
 use Rattle.xcap_machine.specs.Feeds.{ReadsFeed}
-use Rattle.xcap_machine.specs.FlatLists.{ReadsFlat}
+use Rattle.xcap_machine.specs.FlatLists.{ReadsFlatList}
 use Rattle.xcap_machine.specs.ReadRequests.{ReadRequest, ReadsDocument, ReadsNode}
-use Rattle.xcap_machine.specs.DocumentWrites.{IfStored, PutsDocument, missing_parent_answer}
+use Rattle.xcap_machine.specs.DocumentWrites.{WritesIfStored, PutsDocument, missing_parent_answer}
 use Rattle.xcap_machine.specs.DocumentWrites.{DeletesDocument}
-use Rattle.xcap_machine.specs.NodeWrites.{PutsNode, DeletesNode, MayBeWritten}
-use Rattle.xcap_machine.specs.Servers.{ServerState}
+use Rattle.xcap_machine.specs.NodeWrites.{PutsNode, DeletesNode, IsWritableSelector}
+use Rattle.xcap_machine.specs.ServerStates.{ServerState}
 
 -- ---- the target
 
@@ -42,28 +42,28 @@ fault_status UnknownAuid = 404
 fault_status _ = 400
 
 -- namespace bindings can't be put
-abbrev pub is_bindings : End → Bool
-is_bindings Namespaces = true
-is_bindings _ = false
+abbrev pub is_namespace_bindings : End → Bool
+is_namespace_bindings Namespaces = true
+is_namespace_bindings _ = false
 
 -- the targets that can only be read
 abbrev pub is_read_only : Target → Bool
 is_read_only (Document id) = false
-is_read_only (Node id selector) = is_bindings selector.end
+is_read_only (Node id selector) = is_namespace_bindings selector.end
 is_read_only (Deep auid home) = false
 is_read_only _ = true
 
 -- the methods that a target allows
-abbrev pub takes : Target → Method → Bool
-takes target Get = true
-takes target Head = true
-takes target Put = not (is_read_only target)
-takes target Delete = not (is_read_only target)
-takes target Other = false
+abbrev pub allows_method : Target → Method → Bool
+allows_method target Get = true
+allows_method target Head = true
+allows_method target Put = not (is_read_only target)
+allows_method target Delete = not (is_read_only target)
+allows_method target Other = false
 
 -- a target that ends in an attribute is writable
 abbrev pub IsWritableTarget : Target → Type 0
-IsWritableTarget (Node id selector) = MayBeWritten selector
+IsWritableTarget (Node id selector) = IsWritableSelector selector
 IsWritableTarget _ = Unit {0}
 
 -- ---- by method
@@ -72,29 +72,29 @@ IsWritableTarget _ = Unit {0}
 abbrev pub ReadsTarget : ServerState → Target → ReadRequest → Answer → Type 0
 ReadsTarget server (Document id) get a = ReadsDocument server.content id get a
 ReadsTarget server (Node id selector) get a = ReadsNode server.content id selector get a
-ReadsTarget server (Deep auid home) get a = a ≡ unchanged (plain 404 get.request.closes)
+ReadsTarget server (Deep auid home) get a = a ≡ reply_only (plain_reply 404 get.request.closes)
 ReadsTarget server (Feed mode tag id) get a =
     ReadsFeed server (record { mode = mode; tag = tag; id = id }) get a
 ReadsTarget server (ElementFeed tag id selector raw) get a =
     ReadsElementFeed server
     (record { tag = tag; watched = record { doc = id; selector = selector; raw = raw } }) get a
-ReadsTarget server (Flat id service) get a = ReadsFlat server id service get a
+ReadsTarget server (Flat id service) get a = ReadsFlatList server id service get a
 
 -- feeds and flat lists are read only, so they never come here
-abbrev pub Puts : ServerState → Target → Usage → Request → Answer → Type 0
-Puts server (Document id) usage request a = PutsDocument server.content id usage request a
-Puts server (Node id selector) usage request a =
+abbrev pub PutsTarget : ServerState → Target → Usage → Request → Answer → Type 0
+PutsTarget server (Document id) usage request a = PutsDocument server.content id usage request a
+PutsTarget server (Node id selector) usage request a =
     PutsNode server (record { id = id; usage = usage; selector = selector; request = request }) a
-Puts server (Deep auid home) usage request a =
+PutsTarget server (Deep auid home) usage request a =
     a ≡ missing_parent_answer server.root auid home request
-Puts server _ usage request a = ⊥
+PutsTarget server _ usage request a = ⊥
 
-abbrev pub Deletes : StoreContents → Target → Usage → Request → Answer → Type 0
-Deletes c (Document id) usage request a = DeletesDocument c id request a
-Deletes c (Node id selector) usage request a =
+abbrev pub DeletesTarget : StoreContents → Target → Usage → Request → Answer → Type 0
+DeletesTarget c (Document id) usage request a = DeletesDocument c id request a
+DeletesTarget c (Node id selector) usage request a =
     DeletesNode c (record { id = id; usage = usage; selector = selector; request = request }) a
-Deletes c (Deep auid home) usage request a = a ≡ unchanged (plain 404 request.closes)
-Deletes c _ usage request a = ⊥
+DeletesTarget c (Deep auid home) usage request a = a ≡ reply_only (plain_reply 404 request.closes)
+DeletesTarget c _ usage request a = ⊥
 
 -- ---- all in order
 
@@ -116,39 +116,40 @@ home_of (ElementFeed tag id selector raw) = id.home
 home_of (Flat id service) = id.home
 
 -- by the method, which the target allows
-abbrev pub ByMethod : ServerState → Target → Method → Request → Answer → Type 0
-ByMethod server target Get request a =
+abbrev pub AnswersByMethod : ServerState → Target → Method → Request → Answer → Type 0
+AnswersByMethod server target Get request a =
     ReadsTarget server target (record { method = Get; request = request }) a
-ByMethod server target Head request a =
+AnswersByMethod server target Head request a =
     ReadsTarget server target (record { method = Head; request = request }) a
-ByMethod server target Put request a =
-    IfStored (usage_of (auid_of target)) request a (λ usage. Puts server target usage request a)
-ByMethod server target Delete request a =
-    IfStored (usage_of (auid_of target)) request a
-    (λ usage. Deletes server.content target usage request a)
-ByMethod server target Other request a = ⊥
+AnswersByMethod server target Put request a =
+    WritesIfStored (usage_of (auid_of target)) request a
+    (λ usage. PutsTarget server target usage request a)
+AnswersByMethod server target Delete request a =
+    WritesIfStored (usage_of (auid_of target)) request a
+    (λ usage. DeletesTarget server.content target usage request a)
+AnswersByMethod server target Other request a = ⊥
 
 -- whether the user may read or write there
-abbrev pub ByUser : ServerState → Target → Method → Request → Answer → Type 0
-ByUser server target method request a =
+abbrev pub AnswersByUser : ServerState → Target → Method → Request → Answer → Type 0
+AnswersByUser server target method request a =
     MatchBool
     (is_allowed (not (is_reading method)) (auid_of target) (home_of target) request.fields)
-    (ByMethod server target method request a)
-    (a ≡ unchanged (plain 403 request.closes))
+    (AnswersByMethod server target method request a)
+    (a ≡ reply_only (plain_reply 403 request.closes))
 
 -- whether the target allows the method
-abbrev pub ByTarget : ServerState → Target → Method → Request → Answer → Type 0
-ByTarget server target method request a =
-    MatchBool (takes target method)
-    (ByUser server target method request a)
-    (a ≡ unchanged (not_allowed (is_read_only target) request.closes))
+abbrev pub AnswersByTarget : ServerState → Target → Method → Request → Answer → Type 0
+AnswersByTarget server target method request a =
+    MatchBool (allows_method target method)
+    (AnswersByUser server target method request a)
+    (a ≡ reply_only (not_allowed_reply (is_read_only target) request.closes))
 
 -- the answer to a request, under this root, on these store contents: by its target, or by the
 -- target's fault
 abbrev pub IsAnswer : List ℕ → StoreContents → Request → Answer → Type 0
 IsAnswer root c request a =
     let server : ServerState = record { root = root; content = c } in
-    (read : Result Target UriFault) × TargetResult root request.target read
+    (read : Result Target UriFault) × IsTargetResult root request.target read
     × MatchResult read
-    (λ target. ByTarget server target (method_of request.method) request a)
-    (λ fault. a ≡ unchanged (plain (fault_status fault) request.closes))
+    (λ target. AnswersByTarget server target (method_of request.method) request a)
+    (λ fault. a ≡ reply_only (plain_reply (fault_status fault) request.closes))

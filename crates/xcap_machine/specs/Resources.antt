@@ -13,7 +13,7 @@ use Rattle.doc_names.specs.declared.doc_id.Auid.TheVariants.{ResourceLists, RlsS
 use Rattle.doc_names.specs.declared.doc_id.Home.{Home}
 use Rattle.doc_names.specs.declared.doc_id.Home.TheVariants.{Global, User}
 use Rattle.doc_names.specs.declared.doc_id.DocId.{DocId}
-use Rattle.store_core.specs.DocumentChanges.{document_in, stored_name}
+use Rattle.store_core.specs.DocumentChanges.{find_document, stored_id}
 use Rattle.store_core.specs.Contents.{StoredDocument, StoreContents}
 use Rattle.store_core.specs.Indexes.{AreIndexTrees, index}
 
@@ -21,7 +21,7 @@ use Rattle.store_core.specs.Indexes.{AreIndexTrees, index}
 abbrev pub version_of : StoreContents → DocId → Option (Tree × ℕ)
 version_of c id =
     option_map {U = Tree × ℕ} (λ (h : StoredDocument). (h.tree, h.tag))
-    (document_in stored_name c.documents id)
+    (find_document stored_id c.documents id)
 
 -- nothing; a computed document that would be longer than the limit; or a document with its tag
 pub data Resource : Type 0 where
@@ -36,21 +36,21 @@ IsIndexOfServices c root =
 
 -- under `global` there are the index of services, whose tag is the last number given, and the
 -- capabilities, whose tag is 0
-abbrev pub LeadsUnderGlobal : StoreContents → Auid → Bool → Resource → Type 0
-LeadsUnderGlobal c ResourceLists is_index r = r ≡ absent
-LeadsUnderGlobal c RlsServices false r = r ≡ absent
-LeadsUnderGlobal c RlsServices true r =
+abbrev pub IsGlobalResource : StoreContents → Auid → Bool → Resource → Type 0
+IsGlobalResource c ResourceLists is_index r = r ≡ absent
+IsGlobalResource c RlsServices false r = r ≡ absent
+IsGlobalResource c RlsServices true r =
     (root : Tree) × IsIndexOfServices c root
     × (r
     ≡ (if nat_lt INDEX_LIMIT (document_len root) then beyond_limit else there root (c.next - 1)))
-LeadsUnderGlobal c XcapCaps false r = r ≡ absent
-LeadsUnderGlobal c XcapCaps true r = r ≡ there capabilities 0
+IsGlobalResource c XcapCaps false r = r ≡ absent
+IsGlobalResource c XcapCaps true r = r ≡ there capabilities 0
 
-abbrev pub LeadsFrom : StoreContents → DocId → Home → Resource → Type 0
-LeadsFrom c id Global r = LeadsUnderGlobal c id.auid (bytes_eq id.name index) r
-LeadsFrom c id (User xui) r =
+abbrev pub IsResourceInHome : StoreContents → DocId → Home → Resource → Type 0
+IsResourceInHome c id Global r = IsGlobalResource c id.auid (bytes_eq id.name index) r
+IsResourceInHome c id (User xui) r =
     r ≡ option_map_or (λ held. there held.0 held.1) (version_of c id) absent
 
 -- the resource of a document's name
 abbrev pub IsResourceOf : StoreContents → DocId → Resource → Type 0
-IsResourceOf c id r = LeadsFrom c id id.home r
+IsResourceOf c id r = IsResourceInHome c id id.home r

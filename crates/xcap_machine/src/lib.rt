@@ -9,21 +9,21 @@
 //! depends on what is stored now; the next state has all versions.
 #![tactic(auto)]
 
-mod follow_laws;
 mod machine_laws;
-mod memory;
 mod replay_laws;
+mod status_laws;
+mod subscriber_laws;
 
-pub use follow_laws::{
-    a_tag_means_one_version, notices_are_applied_in_order, subscribers_hold_the_document,
-};
 pub use machine_laws::{
     a_second_put_leaves_every_tree, changes_that_are_made_leave_key_addresses,
     each_reply_closes_as_its_request, each_request_has_one_answer, every_state_stays_valid,
     key_addresses_keep_their_elements, targets_may_be_written, what_is_held_follows_the_machine,
     what_is_refused_changes_nothing, what_was_deleted_is_gone, what_was_put_is_there,
 };
-pub use memory::no_answer_is_503;
 pub use replay_laws::{
     notes_are_told_since_a_version, removed_documents_are_dropped, versions_are_replayed,
+};
+pub use status_laws::no_answer_is_503;
+pub use subscriber_laws::{
+    a_tag_means_one_version, notices_are_applied_in_order, subscribers_hold_the_document,
 };

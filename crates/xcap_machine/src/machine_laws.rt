@@ -10,17 +10,19 @@ ghost use Rattle.request_checks.specs.Methods.{method_of};
 ghost use Rattle.store_core.specs.Contents.{Represents, StoreContents};
 ghost use Rattle.store_core.specs.ValidStates.{IsValidState};
 ghost use Rattle.store_core.specs.DocumentChanges.{change_result};
-ghost use Rattle.store_core.specs.Queries.{Asks};
+ghost use Rattle.store_core.specs.ChangePreconditions.{MayRequest};
 ghost use Rattle.store_core.specs.State.{State};
-ghost use Rattle.xcap_uri.specs.Targets.{TargetResult};
+ghost use Rattle.xcap_uri.specs.Targets.{IsTargetResult};
 ghost use Rattle.xcap_uri.specs.declared.target.Target.{Target};
 ghost use Rattle.xcap_machine.specs.Answers.{Answer};
-ghost use Rattle.xcap_machine.specs.Effects.{DeletedIsGone, KeyAddressesStay, PutExists};
-ghost use Rattle.xcap_machine.specs.Effects.{SecondPutLeavesTrees};
-ghost use Rattle.xcap_machine.specs.KeyAddresses.{KeepsAddressesOf};
-ghost use Rattle.xcap_machine.specs.Machine.{Does, ValidStep, Step};
+ghost use Rattle.xcap_machine.specs.WriteEffects.{DeleteTargetIsGone, EditKeepsKeyAddresses};
+ghost use Rattle.xcap_machine.specs.WriteEffects.{PutTargetExists};
+ghost use Rattle.xcap_machine.specs.WriteEffects.{RepeatedPutPreservesTrees};
+ghost use Rattle.xcap_machine.specs.KeyAddresses.{ChangeKeepsKeyAddresses};
+ghost use Rattle.xcap_machine.specs.Machine.{ContentStep, ValidStep, Step};
 ghost use Rattle.xcap_machine.specs.Requests.{IsAnswer, IsWritableTarget};
-ghost use Rattle.xcap_machine.specs.Laws.{AllowsOne, ChangesNothing, HasStep, tells_change};
+ghost use Rattle.xcap_machine.specs.StepOutcomes.{IsDeterministic, ChangesNothing, HasStep};
+ghost use Rattle.xcap_machine.specs.StepOutcomes.{reports_change};
 
 /// A law: under each root, a request has exactly one answer on given store contents: one reply,
 /// and one change or none. So it leaves one possible contents; and from each state the machine
@@ -31,11 +33,11 @@ pub fn each_request_has_one_answer()
     ensures answers_are_one { (root : List ℕ) (c : StoreContents) (request : Request) (a b : Answer)
         → IsAnswer root c request a → IsAnswer root c request b → a ≡ b }
     ensures one_outcome { (root : List ℕ) (c : StoreContents) (request : Request)
-        → AllowsOne (Does root c request) }
+        → IsDeterministic (ContentStep root c request) }
     ensures step_exists { (root : List ℕ) (m : State) (request : Request)
         → HasStep root m request }
     ensures steps_are_one { (root : List ℕ) (m : State) (request : Request)
-        → AllowsOne (Step root m request) }
+        → IsDeterministic (Step root m request) }
 {}
 
 /// A law: a step whose status reports no change leaves the state unchanged and has no edit; so
@@ -45,7 +47,7 @@ pub fn what_is_refused_changes_nothing()
     ensures unnotified_unchanged { (root : List ℕ) (m : State) (request : Request)
         (reply : SentReply) (next : State) (edit : Option Edit)
         → Step root m request reply next edit
-        → tells_change (method_of request.method) reply.status ≡ false
+        → reports_change (method_of request.method) reply.status ≡ false
         → ChangesNothing m next edit }
     ensures refused_unchanged { (root : List ℕ) (m : State) (request : Request)
         (reply : SentReply) (next : State) (edit : Option Edit)
@@ -54,7 +56,7 @@ pub fn what_is_refused_changes_nothing()
     ensures reported_takes_number { (root : List ℕ) (m : State) (request : Request)
         (reply : SentReply) (next : State) (edit : Option Edit)
         → Step root m request reply next edit
-        → tells_change (method_of request.method) reply.status ≡ true
+        → reports_change (method_of request.method) reply.status ≡ true
         → IsSome edit × (next.next ≡ m.next + 1) }
 {}
 
@@ -76,25 +78,25 @@ pub fn each_reply_closes_as_its_request()
 pub fn what_is_held_follows_the_machine()
     ensures represents_after { (root : List ℕ) (c next : StoreContents) (m : State)
         (request : Request) (reply : SentReply) (edit : Option Edit)
-        → Does root c request reply next edit → IsValidState m → Represents c m
+        → ContentStep root c request reply next edit → IsValidState m → Represents c m
         → (after : State) × ValidStep root m request reply after edit × Represents next after }
 {}
 
 /// A law: after an accepted PUT the address selects exactly what was put, as the body is parsed at
 /// its place; and the document has the tag of the edit.
 pub fn what_was_put_is_there()
-    ensures is_there { (root : List ℕ) (c next : StoreContents) (request : Request)
+    ensures node_exists { (root : List ℕ) (c next : StoreContents) (request : Request)
         (reply : SentReply)
-        (edit : Option Edit) → Does root c request reply next edit
-        → PutExists root c request edit next }
+        (edit : Option Edit) → ContentStep root c request reply next edit
+        → PutTargetExists root c request edit next }
 {}
 
 /// A law: after an accepted DELETE the address selects nothing.
 pub fn what_was_deleted_is_gone()
     ensures deleted_is_gone { (root : List ℕ) (c next : StoreContents) (request : Request)
         (reply : SentReply)
-        (edit : Option Edit) → Does root c request reply next edit
-        → DeletedIsGone root request edit next }
+        (edit : Option Edit) → ContentStep root c request reply next edit
+        → DeleteTargetIsGone root request edit next }
 {}
 
 /// A law: where a PUT without condition fields was accepted, the same request leaves every tree
@@ -104,7 +106,8 @@ pub fn a_second_put_leaves_every_tree()
     ensures leaves_trees { (root : List ℕ) (c next : StoreContents) (request : Request)
         (reply : SentReply)
         (edit : Option Edit) (m : State) → IsValidState m → Represents c m
-        → Does root c request reply next edit → SecondPutLeavesTrees root request edit next }
+        → ContentStep root c request reply next edit
+        → RepeatedPutPreservesTrees root request edit next }
 {}
 
 /// A law: where contents represent a valid state, a change that the store makes preserves what the
@@ -112,8 +115,9 @@ pub fn a_second_put_leaves_every_tree()
 /// change moves it, if it still exists and no key on its path is written or removed.
 pub fn changes_that_are_made_leave_key_addresses()
     ensures keeps_selected { (c : StoreContents) (m : State) (id : DocId) (change : Change)
-        (note : Note) (next : StoreContents) → Represents c m → IsValidState m → Asks c id change
-        → change_result c id change ≡ Ok (note, next) → KeepsAddressesOf c id change next }
+        (note : Note) (next : StoreContents) → Represents c m → IsValidState m
+        → MayRequest c id change
+        → change_result c id change ≡ Ok (note, next) → ChangeKeepsKeyAddresses c id change next }
 {}
 
 /// A law: each change that the machine makes of a document that was stored, and still is,
@@ -123,11 +127,12 @@ pub fn key_addresses_keep_their_elements()
     ensures keeps_elements { (root : List ℕ) (c next : StoreContents) (request : Request)
         (reply : SentReply)
         (edit : Option Edit) (m : State) → IsValidState m → Represents c m
-        → Does root c request reply next edit → KeyAddressesStay c edit next }
+        → ContentStep root c request reply next edit → EditKeepsKeyAddresses c edit next }
 {}
 
 /// A law: where the address of a request ends in an attribute, the attribute is writable.
 pub fn targets_may_be_written()
-    ensures writable_target { (root target : List ℕ) (t : Target) → TargetResult root target (Ok t)
+    ensures writable_target { (root target : List ℕ) (t : Target)
+        → IsTargetResult root target (Ok t)
         → IsWritableTarget t }
 {}

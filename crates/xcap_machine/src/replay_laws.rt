@@ -1,7 +1,7 @@
 //! Laws of retained versions, each the contract of a function that does nothing.
 ghost use Rattle.std.specs.Prelude.{◌≡◌, ℕ, true, decimal, List, Some, None};
 ghost use Rattle.xml_tree.specs.Tree.{Tree};
-ghost use Rattle.doc_names.specs.Ids.{id_text};
+ghost use Rattle.doc_names.specs.DocIds.{id_text};
 ghost use Rattle.doc_names.specs.declared.doc_id.DocId.{DocId};
 ghost use Rattle.xcap_uri.specs.PrintedNames.{is_encodable};
 ghost use Rattle.xcap_uri.specs.Roots.{is_root_text};
@@ -13,9 +13,10 @@ ghost use Rattle.store_core.specs.Contents.{Represents, StoreContents};
 ghost use Rattle.store_core.specs.ValidStates.{IsValidState};
 ghost use Rattle.store_core.specs.Since.{ReportedChanges, since};
 ghost use Rattle.store_core.specs.State.{Document, State, Version};
-ghost use Rattle.xcap_machine.specs.Subscribers.{Brings, ReportsSince, VersionNotes};
-ghost use Rattle.xcap_machine.specs.Subscribers.{answer_between};
-ghost use Rattle.xcap_machine.specs.Subscribers.{fetch_between, subscribed};
+ghost use Rattle.xcap_machine.specs.SubscriberReplicas.{DiffUpdatesReplica, ReportsSince};
+ghost use Rattle.xcap_machine.specs.SubscriberReplicas.{VersionNotes};
+ghost use Rattle.xcap_machine.specs.SubscriberReplicas.{patch_answer_between};
+ghost use Rattle.xcap_machine.specs.SubscriberReplicas.{fetch_answer_between, replica_of_version};
 
 use xcap_uri::roots_are_spelled_by_the_grammar;
 
@@ -36,16 +37,19 @@ pub fn notes_are_told_since_a_version()
 pub fn versions_are_replayed()
     ensures step_by_step { (c : StoreContents) (m : State) (v : VersionNotes) (root : List ℕ)
         → ReportsSince c m v → is_root_text root ≡ true → is_encodable v.id ≡ true
-        → Brings v.id (patching_notice root (id_text v.id) v.from.tag v.notes) (subscribed v.from)
-        (answer_between v.from v.document.now) (subscribed v.document.now) }
+        → DiffUpdatesReplica v.id (patching_notice root (id_text v.id) v.from.tag v.notes)
+        (replica_of_version v.from)
+        (patch_answer_between v.from v.document.now) (replica_of_version v.document.now) }
     ensures aggregated { (c : StoreContents) (m : State) (v : VersionNotes) (root : List ℕ)
         → ReportsSince c m v → is_root_text root ≡ true → is_encodable v.id ≡ true
-        → Brings v.id (aggregate_notice root (id_text v.id) v.from.tag v.notes) (subscribed v.from)
-        (answer_between v.from v.document.now) (subscribed v.document.now) }
+        → DiffUpdatesReplica v.id (aggregate_notice root (id_text v.id) v.from.tag v.notes)
+        (replica_of_version v.from)
+        (patch_answer_between v.from v.document.now) (replica_of_version v.document.now) }
     ensures tags_alone { (c : StoreContents) (m : State) (v : VersionNotes) (root : List ℕ)
         → ReportsSince c m v → is_root_text root ≡ true → is_encodable v.id ≡ true
-        → Brings v.id (tags_notice root (id_text v.id) v.from.tag v.notes) (subscribed v.from)
-        (fetch_between v.from v.document.now) (subscribed v.from) }
+        → DiffUpdatesReplica v.id (tags_notice root (id_text v.id) v.from.tag v.notes)
+        (replica_of_version v.from)
+        (fetch_answer_between v.from v.document.now) (replica_of_version v.from) }
 {
     roots_are_spelled_by_the_grammar();
 }
@@ -55,7 +59,8 @@ pub fn versions_are_replayed()
 pub fn removed_documents_are_dropped()
     ensures gone_is_dropped { (id : DocId) (tag : ℕ) (t : Tree) (root : List ℕ)
         → is_root_text root ≡ true → is_encodable id ≡ true
-        → Brings id (gone_notice root (id_text id) tag) (Some (decimal tag, t)) Removed None }
+        → DiffUpdatesReplica id (gone_notice root (id_text id) tag) (Some (decimal tag, t)) Removed
+        None }
 {
     roots_are_spelled_by_the_grammar();
 }

@@ -1,35 +1,35 @@
 -- Reading a body, step by step.
 use Rattle.std.proofs.Common.{◌≡◌, ◌≤◌, ℕ, Bool, List, [], None, Result, Ok, Err, IfOk, refl, subst}
-use Rattle.tree_text.specs.Faults.{TextAnswer}
+use Rattle.tree_text.specs.Faults.{IsTextResult}
 use Rattle.doc_names.specs.declared.usages.Usage.{Usage}
 use Rattle.usage_docs.specs.Validation.{HasFirstFault}
-use Rattle.xml_tree.specs.Proper.{ProperIn}
+use Rattle.xml_tree.specs.Proper.{IsProperTree}
 use Rattle.xml_tree.specs.Tree.{Tree, height}
 use Rattle.http_wire.specs.declared.request.Request.{Request}
 use Rattle.reply_text.specs.declared.media_types.MediaType.{MediaType}
-use Rattle.xcap_machine.specs.DocumentWrites.{PutsBody, PutsSpelled}
-use Rattle.xcap_machine.specs.inner.Cases.{PutsText}
-use Rattle.xcap_put.specs.inner.Bodies.{Comes}
+use Rattle.xcap_machine.specs.DocumentWrites.{PutsBody, PutsParsedBody}
+use Rattle.xcap_machine.specs.inner.AnswerCases.{PutsParsedText}
+use Rattle.xcap_put.specs.inner.ReadBodies.{IsReadBody}
 use Rattle.xcap_put.specs.declared.request_bodies.Body.{Body}
 use Rattle.xcap_put.specs.declared.request_bodies.Body.TheVariants.{Document, Refused}
 
 module _ (usage : Usage) (closes : Bool) where
   -- ---- a tree
 
-  pub tree_comes : (t : Tree) → ProperIn [] t → height t ≤ 64 → HasFirstFault usage t None → Comes (λ answer a. PutsText usage (Ok t) closes answer a) usage (Document t)
+  pub tree_comes : (t : Tree) → IsProperTree [] t → height t ≤ 64 → HasFirstFault usage t None → IsReadBody (λ answer a. PutsParsedText usage (Ok t) closes answer a) usage (Document t)
   tree_comes t proper low check_document = (record { proper = proper; low = low; faultless = check_document }, λ answer. (None, check_document, refl))
 
 -- ---- a text, by how it is parsed
 
-pub text_comes : {E : Type 0} (usage : Usage) (request : Request) (r : Result Body E) (t : Tree) (read : List ℕ) → read ≡ request.body → TextAnswer 64 [] read (Ok t)
-    → IfOk r (λ came. Comes (λ answer a. PutsText usage (Ok t) request.closes answer a) usage came) → IfOk r (λ came. Comes (λ answer a. PutsSpelled usage request answer a) usage came)
-text_comes usage request (Ok (Refused reply)) t read same spelled h = λ answer. (Ok t, subst (λ (bytes : List ℕ). TextAnswer 64 [] bytes (Ok t)) same spelled, h answer)
+pub text_comes : {E : Type 0} (usage : Usage) (request : Request) (r : Result Body E) (t : Tree) (read : List ℕ) → read ≡ request.body → IsTextResult 64 [] read (Ok t)
+    → IfOk r (λ came. IsReadBody (λ answer a. PutsParsedText usage (Ok t) request.closes answer a) usage came) → IfOk r (λ came. IsReadBody (λ answer a. PutsParsedBody usage request answer a) usage came)
+text_comes usage request (Ok (Refused reply)) t read same spelled h = λ answer. (Ok t, subst (λ (bytes : List ℕ). IsTextResult 64 [] bytes (Ok t)) same spelled, h answer)
 text_comes usage request (Ok (Document tree)) t read same spelled h =
-    (h.0, λ answer. (Ok t, subst (λ (bytes : List ℕ). TextAnswer 64 [] bytes (Ok t)) same spelled, h.1 answer))
+    (h.0, λ answer. (Ok t, subst (λ (bytes : List ℕ). IsTextResult 64 [] bytes (Ok t)) same spelled, h.1 answer))
 text_comes usage request (Err e) t read same spelled h = tt
 
 -- ---- a body of the media type
 
-pub body_comes : (usage : Usage) (m media : MediaType) (request : Request) (came body : Body) → m ≡ media → came ≡ body → Comes (λ answer a. PutsBody usage m request answer a) usage came → Comes (λ answer a. PutsBody usage media request answer a) usage body
+pub body_comes : (usage : Usage) (m media : MediaType) (request : Request) (came body : Body) → m ≡ media → came ≡ body → IsReadBody (λ answer a. PutsBody usage m request answer a) usage came → IsReadBody (λ answer a. PutsBody usage media request answer a) usage body
 body_comes usage m media request came body same is h =
-    subst (λ (b : Body). Comes (λ answer a. PutsBody usage media request answer a) usage b) is (subst (λ (x : MediaType). Comes (λ answer a. PutsBody usage x request answer a) usage came) same h)
+    subst (λ (b : Body). IsReadBody (λ answer a. PutsBody usage media request answer a) usage b) is (subst (λ (x : MediaType). IsReadBody (λ answer a. PutsBody usage x request answer a) usage came) same h)

@@ -9,17 +9,17 @@ use Rattle.edit_rules.specs.Spots.{IsSpot}
 use Rattle.edit_rules.specs.declared.spot.Spot.{Spot}
 use Rattle.http_wire.specs.declared.request.Request.{Request}
 use Rattle.reply_text.specs.ReplyHeads.{SentReply}
-use Rattle.request_checks.specs.Conditions.{IsStop}
-use Rattle.store_core.specs.StoreViews.{Stored}
+use Rattle.request_checks.specs.Conditions.{IsConditionReply}
+use Rattle.store_core.specs.StoreViews.{StoreView}
 use Rattle.store_core.specs.Contents.{StoreContents as Content}
-use Rattle.xcap_machine.specs.Answers.{Answer, AfterConditions, unchanged}
-use Rattle.xcap_machine.specs.NodeWrites.{CutsNode, PutsFragment, is_there}
+use Rattle.xcap_machine.specs.Answers.{Answer, AppliesConditions, reply_only}
+use Rattle.xcap_machine.specs.NodeWrites.{RemovesNode, PutsFragment, node_exists}
 use Rattle.xcap_machine.specs.Resources.{version_of}
-use Rattle.xcap_machine.specs.inner.Cases.{DeletesNodeOf, PutsNodeOf}
-use Rattle.xcap_machine.specs.inner.Records.{representation, server_of, write_of}
+use Rattle.xcap_machine.specs.inner.AnswerCases.{DeletesNodeOfVersion, PutsNodeOfVersion}
+use Rattle.xcap_machine.specs.inner.RecordValues.{representation, server_state, node_write}
 use Rattle.xcap_machine.proofs.Cases.{at_true, stopped, unstopped}
-use Rattle.xcap_put.specs.Decisions.{Decides}
-use Rattle.xcap_put.specs.inner.RequestPlans.{IsPlanFor, answer_by}
+use Rattle.xcap_put.specs.Decisions.{DecidesAnswer}
+use Rattle.xcap_put.specs.inner.RequestPlans.{IsPlanFor, answer_of_plan}
 use Rattle.xcap_put.specs.declared.decision.Decision.{Decision}
 use Rattle.xcap_put.specs.declared.plan.Plan.{Plan}
 use Rattle.xcap_put.specs.declared.plan.Plan.TheVariants.{Stops}
@@ -30,15 +30,15 @@ use Rattle.xcap_put.proofs.PlanAnswers.{Plans, plans_so, stopped_by}
 
 module _ (usage : Usage) (t : Tree) (request : Request) (tag : ℕ) (exists there : Bool) (known : exists ≡ there) (P : Content → DocId → Answer → Type 0) where
   abbrev pub BehindIt : Content → DocId → Answer → Type 0
-  BehindIt c id a = AfterConditions request (representation (Some tag) there) false a (P c id a)
+  BehindIt c id a = AppliesConditions request (representation (Some tag) there) false a (P c id a)
 
-  module _ (stop : Option SentReply) (is : IsStop request (Some tag) exists false stop) where
-    is_its_stop : IsStop request (Some tag) there false stop
-    is_its_stop = subst (λ (b : Bool). IsStop request (Some tag) b false stop) known is
+  module _ (stop : Option SentReply) (is : IsConditionReply request (Some tag) exists false stop) where
+    is_its_stop : IsConditionReply request (Some tag) there false stop
+    is_its_stop = subst (λ (b : Bool). IsConditionReply request (Some tag) b false stop) known is
 
     pub plan_stopped : (reply : SentReply) → stop ≡ Some reply → Plans usage t request.closes BehindIt (Stops reply)
     plan_stopped reply so =
-        stopped_by usage t request.closes BehindIt (Stops reply) reply refl (λ c id. stopped request (Some tag) there false stop is_its_stop reply (P c id (unchanged reply)) so)
+        stopped_by usage t request.closes BehindIt (Stops reply) reply refl (λ c id. stopped request (Some tag) there false stop is_its_stop reply (P c id (reply_only reply)) so)
 
     pub plan_unstopped : {E : Type 0} (plan : Result Plan E) → stop ≡ None → IfOk plan (Plans usage t request.closes P) → IfOk plan (Plans usage t request.closes BehindIt)
     plan_unstopped plan so plans =
@@ -48,10 +48,10 @@ module _ (usage : Usage) (t : Tree) (request : Request) (tag : ℕ) (exists ther
 
 module _ (root : List ℕ) (id : DocId) (usage : Usage) (selector : Selector) (t : Tree) (tag : ℕ) (request : Request) where
   abbrev PutsIt : Content → Answer → Type 0
-  PutsIt c a = PutsNodeOf (server_of root c) (write_of id usage selector request) (t, tag) a
+  PutsIt c a = PutsNodeOfVersion (server_state root c) (node_write id usage selector request) (t, tag) a
 
   abbrev PutsThere : Spot → Content → DocId → Answer → Type 0
-  PutsThere spot c d a = AfterConditions request (representation (Some tag) (is_there t selector)) false a (PutsFragment c (write_of d usage selector request) t spot a)
+  PutsThere spot c d a = AppliesConditions request (representation (Some tag) (node_exists t selector)) false a (PutsFragment c (node_write d usage selector request) t spot a)
 
   pub put_at_spot : {E : Type 0} (spot : Spot) → IsSpot t selector (Ok spot) → (plan : Result Plan E) → IfOk plan (Plans usage t request.closes (PutsThere spot)) → IfOk plan (IsPlanFor usage t id request.closes PutsIt)
   put_at_spot spot is (Ok plan) plans = let p = plans id in record { answers = λ c. (Ok spot, is, p.answers c); may_be_made = p.may_be_made }
@@ -61,17 +61,17 @@ module _ (root : List ℕ) (id : DocId) (usage : Usage) (selector : Selector) (t
 
 module _ (usage : Usage) (selector : Selector) (t : Tree) (tag : ℕ) (request : Request) where
   abbrev DeletesIt : Content → DocId → Answer → Type 0
-  DeletesIt c id a = DeletesNodeOf c (write_of id usage selector request) (t, tag) a
+  DeletesIt c id a = DeletesNodeOfVersion c (node_write id usage selector request) (t, tag) a
 
-  pub there : {E : Type 0} (plan : Result Plan E) → is_there t selector ≡ true
-      → IfOk plan (Plans usage t request.closes (λ c id a. AfterConditions request (representation (Some tag) true) false a (CutsNode c (write_of id usage selector request) t a))) → IfOk plan (Plans usage t request.closes DeletesIt)
+  pub there : {E : Type 0} (plan : Result Plan E) → node_exists t selector ≡ true
+      → IfOk plan (Plans usage t request.closes (λ c id a. AppliesConditions request (representation (Some tag) true) false a (RemovesNode c (node_write id usage selector request) t a))) → IfOk plan (Plans usage t request.closes DeletesIt)
   there plan is plans =
-      plans_so usage t request.closes (λ c id a. AfterConditions request (representation (Some tag) true) false a (CutsNode c (write_of id usage selector request) t a)) DeletesIt (λ c id a so. at_true _ _ _ is so) plan plans
+      plans_so usage t request.closes (λ c id a. AppliesConditions request (representation (Some tag) true) false a (RemovesNode c (node_write id usage selector request) t a)) DeletesIt (λ c id a so. at_true _ _ _ is so) plan plans
 
 -- ---- the decision by a plan
 
-pub decides_planned : {E : Type 0} (c : Content) (id : DocId) (closes : Bool) (v : Option (Tree × ℕ)) (P : Option (Tree × ℕ) → Answer → Type 0) → v ≡ version_of c id → (plan : Plan) → P v (answer_by c id closes plan)
-    → (s : Stored) (r : Result Decision E) → IfOk r (λ d. Decides (λ a. a ≡ answer_by c id closes plan) s d) → IfOk r (λ d. Decides (P (version_of c id)) s d)
+pub decides_planned : {E : Type 0} (c : Content) (id : DocId) (closes : Bool) (v : Option (Tree × ℕ)) (P : Option (Tree × ℕ) → Answer → Type 0) → v ≡ version_of c id → (plan : Plan) → P v (answer_of_plan c id closes plan)
+    → (s : StoreView) (r : Result Decision E) → IfOk r (λ d. DecidesAnswer (λ a. a ≡ answer_of_plan c id closes plan) s d) → IfOk r (λ d. DecidesAnswer (P (version_of c id)) s d)
 decides_planned c id closes v P is plan answered s r decides =
-    all_so (λ a. a ≡ answer_by c id closes plan) s (P (version_of c id))
+    all_so (λ a. a ≡ answer_of_plan c id closes plan) s (P (version_of c id))
     (λ a so. subst (λ (x : Option (Tree × ℕ)). P x a) is (subst (λ (x : Answer). P v x) (sym so) answered)) r decides

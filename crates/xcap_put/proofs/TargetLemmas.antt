@@ -7,54 +7,54 @@ use Rattle.xml_tree.specs.TreeScopes.{scope_around, scope_at}
 use Rattle.xml_tree.specs.Tree.{Tree, at, height, child_elements_of}
 use Rattle.xml_tree.proofs.PathLemmas.{front-snoc}
 use Rattle.xml_tree.proofs.PlaceLaws.{at-append, height-at}
-use Rattle.node_select.specs.Selection.{SelectsPath, selected_in}
+use Rattle.node_select.specs.Selection.{SelectsPath, selected_element_path}
 use Rattle.node_select.specs.declared.selector.End.{End}
 use Rattle.node_select.specs.declared.selector.End.TheVariants as ends
 use Rattle.node_select.specs.declared.selector.Selector.{Selector}
 use Rattle.node_select.proofs.Along.{path_there}
 use Rattle.node_select.proofs.ReachLemmas.{path_is}
-use Rattle.reply_bodies.specs.Nodes.{found_text, node_text, text_at}
+use Rattle.reply_bodies.specs.Nodes.{found_text, node_text, node_text_at}
 use Rattle.edit_rules.specs.Spots.{IsSpotOf, SelectNothing}
 use Rattle.edit_rules.specs.declared.spot.Spot.{Spot}
 use Rattle.edit_rules.specs.declared.spot.Spot.TheVariants.{Over, Under, Beside, Value}
-use Rattle.xcap_machine.specs.NodeWrites.{is_there, levels_for, scope_for}
+use Rattle.xcap_machine.specs.NodeWrites.{node_exists, max_height_at, edit_target_scope}
 use Rattle.xcap_put.specs.inner.RequestPlans.{SpotExists}
 
 -- ---- whether the node is there
 
-text_over : (end : End) (t : Tree) (p : List ℕ) → end ≡ ends.Element → IsSome (at p t) → is_some (text_at end p t) ≡ true
-text_over end t p is there = subst (λ (x : End). is_some (text_at x p t) ≡ true) (sym is) (by (at p t) there)
+text_over : (end : End) (t : Tree) (p : List ℕ) → end ≡ ends.Element → IsSome (at p t) → is_some (node_text_at end p t) ≡ true
+text_over end t p is there = subst (λ (x : End). is_some (node_text_at x p t) ≡ true) (sym is) (by (at p t) there)
   where
     by : (o : Option Tree) → IsSome o → is_some (option_and_then (node_text ends.Element (scope_at p t)) o) ≡ true
     by None h = cc
     by (Some e) h = refl
 
-found_at : (t : Tree) (selector : Selector) (p : List ℕ) → SelectsPath selector.steps t p → found_text t selector ≡ text_at selector.end p t
-found_at t selector p selects = ap (option_and_then (λ q. text_at selector.end q t)) ((path_is selector.steps t p).1 selects)
+found_at : (t : Tree) (selector : Selector) (p : List ℕ) → SelectsPath selector.steps t p → found_text t selector ≡ node_text_at selector.end p t
+found_at t selector p selects = ap (option_and_then (λ q. node_text_at selector.end q t)) ((path_is selector.steps t p).1 selects)
 
-not_found : (t : Tree) (selector : Selector) → SelectNothing selector.steps t → is_there t selector ≡ false
-not_found t selector nothing = by (selected_in selector.steps t) refl
+not_found : (t : Tree) (selector : Selector) → SelectNothing selector.steps t → node_exists t selector ≡ false
+not_found t selector nothing = by (selected_element_path selector.steps t) refl
   where
-    by : (o : Option (List ℕ)) → selected_in selector.steps t ≡ o → is_there t selector ≡ false
-    by None is = ap (λ (o : Option (List ℕ)). is_some (option_and_then (λ q. text_at selector.end q t) o)) is
+    by : (o : Option (List ℕ)) → selected_element_path selector.steps t ≡ o → node_exists t selector ≡ false
+    by None is = ap (λ (o : Option (List ℕ)). is_some (option_and_then (λ q. node_text_at selector.end q t) o)) is
     by (Some p) is = absurd (nothing p ((path_is selector.steps t p).0 is))
 
 module _ (t : Tree) (selector : Selector) (spot : Spot) (is : IsSpotOf t selector spot) where
   so_is : (s : Spot) → spot ≡ s → IsSpotOf t selector s
   so_is s same = subst (λ (x : Spot). IsSpotOf t selector x) same is
 
-  pub there_over : (p : List ℕ) → spot ≡ Over p → true ≡ is_there t selector
+  pub there_over : (p : List ℕ) → spot ≡ Over p → true ≡ node_exists t selector
   there_over p same =
       let over = so_is (Over p) same in
       sym (ap (λ (o : Option (List ℕ)). is_some o) (found_at t selector p over.1) ∙ text_over selector.end t p over.0 (path_there selector.steps t p over.1))
 
-  pub new_under : (q : List ℕ) → spot ≡ Under q → false ≡ is_there t selector
+  pub new_under : (q : List ℕ) → spot ≡ Under q → false ≡ node_exists t selector
   new_under q same = sym (not_found t selector (so_is (Under q) same).1)
 
-  pub new_beside : spot ≡ Beside → false ≡ is_there t selector
+  pub new_beside : spot ≡ Beside → false ≡ node_exists t selector
   new_beside same = sym (not_found t selector (so_is Beside same).1)
 
-  pub there_as_value : (p : List ℕ) → spot ≡ Value p → is_some (text_at selector.end p t) ≡ is_there t selector
+  pub there_as_value : (p : List ℕ) → spot ≡ Value p → is_some (node_text_at selector.end p t) ≡ node_exists t selector
   there_as_value p same = sym (ap (λ (o : Option (List ℕ)). is_some o) (found_at t selector p (so_is (Value p) same).1))
 
 -- ---- the element of an edit target
@@ -107,7 +107,7 @@ there_low t p there low = by (at p t) refl there
     by None is h = cc
     by (Some e) is h = let k = height-at p e t is in omega (arith, k, low)
 
-pub scope_fits : (t : Tree) (spot : Spot) → SpotExists t spot → height t ≤ 64 → length (scope_for t spot) + levels_for spot ≤ 67
+pub scope_fits : (t : Tree) (spot : Spot) → SpotExists t spot → height t ≤ 64 → length (edit_target_scope t spot) + max_height_at spot ≤ 67
 scope_fits t (Over p) there low = let a = around_len p t in let h = there_low t p there low in omega arith
 scope_fits t (Under q) there low = let a = scope_len q t in let h = there_low t q there low in omega arith
 scope_fits t Beside there low = omega arith

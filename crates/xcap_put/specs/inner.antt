@@ -1,3 +1,3 @@
 -- What private functions and proofs use. No clause of a public call needs it.
-pub mod Bodies
+pub mod ReadBodies
 pub mod RequestPlans

@@ -1,7 +1,7 @@
 //! Replies with an error document (RFC 4825, section 11).
 ghost use Rattle.std.specs.Prelude.{◌≡◌, IfOk};
 ghost use Rattle.reply_bodies.specs.declared.conflicts.ErrorBody.TheVariants as conflicts;
-ghost use Rattle.xcap_machine.specs.Answers.{conflict};
+ghost use Rattle.xcap_machine.specs.Answers.{error_reply};
 ghost use Rattle.xcap_machine.specs.DocumentWrites.{clash_field, fault_conflict};
 
 use crate::NoMemory;
@@ -18,15 +18,15 @@ pub(crate) fn conflict_reply(
     body: &ErrorBody,
     closes: bool,
 ) -> Result<Reply, NoMemory>
-    ensures ok { IfOk result (λ reply. reply ≡ conflict body.now closes) }
+    ensures ok { IfOk result (λ reply. reply ≡ error_reply body.now closes) }
 {
     let document = error_document(alloc, body)?;
     Ok(Reply::with(409, None, Some(MediaType::Error), document, closes))
 }
 
 /// The reply to a node without a parent: the URI is the closest ancestor's.
-pub(crate) fn no_parent(alloc: Global, uri: Text, closes: bool) -> Result<Reply, NoMemory>
-    ensures ok { IfOk result (λ reply. reply ≡ conflict (conflicts.NoParent uri) closes) }
+pub(crate) fn no_parent_reply(alloc: Global, uri: Text, closes: bool) -> Result<Reply, NoMemory>
+    ensures ok { IfOk result (λ reply. reply ≡ error_reply (conflicts.NoParent uri) closes) }
 {
     conflict_reply(alloc, &ErrorBody::NoParent(uri), closes)
 }
@@ -37,7 +37,7 @@ fn clash_field(alloc: Global, clash: &Clash) -> Result<Text, NoMemory>
 {
     let mut field = print_path(alloc, &clash.path)?;
     field.push_str("/@")?;
-    field.push_str(clash.key.word())?;
+    field.push_str(clash.key.attribute_name())?;
     Ok(field)
 }
 
@@ -48,12 +48,12 @@ pub(crate) fn fault_conflict(alloc: Global, fault: &Fault) -> Result<ErrorBody, 
     match fault {
         Fault::Invalid => Ok(ErrorBody::Schema),
         Fault::Unformed => Ok(ErrorBody::Constraint),
-        Fault::Repeated(clash) => uniqueness(alloc, clash),
+        Fault::Repeated(clash) => uniqueness_conflict(alloc, clash),
     }
 }
 
 /// The error for a key that is there already.
-pub(crate) fn uniqueness(alloc: Global, clash: &Clash) -> Result<ErrorBody, NoMemory>
+pub(crate) fn uniqueness_conflict(alloc: Global, clash: &Clash) -> Result<ErrorBody, NoMemory>
     ensures ok { IfOk result (λ body. body ≡ conflicts.Unique (clash_field clash.now)) }
 {
     let field = clash_field(alloc, clash)?;

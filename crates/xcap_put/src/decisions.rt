@@ -1,10 +1,10 @@
 //! Decisions on changes of documents: prepared with all their memory, or refused.
 ghost use Rattle.std.specs.Prelude.{◌≡◌, IfOk, if◌then◌else◌};
-ghost use Rattle.store_core.specs.Queries.{Asks};
-ghost use Rattle.xcap_machine.specs.Answers.{tagged};
+ghost use Rattle.store_core.specs.ChangePreconditions.{MayRequest};
+ghost use Rattle.xcap_machine.specs.Answers.{tagged_reply};
 ghost use Rattle.xcap_machine.specs.DocumentWrites.{change_answer, put_reply};
-ghost use Rattle.xcap_put.specs.Decisions.{Decides};
-ghost use Rattle.xcap_put.specs.inner.RequestPlans.{AsksBy, answer_by};
+ghost use Rattle.xcap_put.specs.Decisions.{DecidesAnswer};
+ghost use Rattle.xcap_put.specs.inner.RequestPlans.{AsksForPlan, answer_of_plan};
 
 use crate::plan::Plan;
 use crate::refusal_replies::refusal_reply;
@@ -18,7 +18,7 @@ use xcap_io::Bytes;
 
 // The reply to a PUT: 200 where something was there, else 201.
 fn put_reply(alloc: Global, exists: bool, tag: u64, closes: bool) -> Reply
-    ensures exact { result ≡ tagged (if exists then 200 else 201) tag closes }
+    ensures exact { result ≡ tagged_reply (if exists then 200 else 201) tag closes }
 {
     if exists {
         return Reply::with(200, Some(tag), None, Bytes::new(alloc), closes);
@@ -40,9 +40,9 @@ pub(crate) fn decide_change(
     exists: bool,
     closes: bool,
 ) -> Result<Decision, NoMemory>
-    requires change_asked { Asks store.old.content doc change }
+    requires change_asked { MayRequest store.old.content doc change }
     ensures decides_change { IfOk result (λ d.
-        Decides (λ a. a ≡ change_answer store.old.content doc change closes
+        DecidesAnswer (λ a. a ≡ change_answer store.old.content doc change closes
         (put_reply exists closes)) store.new d) }
     ensures contents_unchanged { store.new.content ≡ store.old.content }
 {
@@ -69,9 +69,10 @@ pub(crate) fn decide_plan(
     plan: Plan,
     closes: bool,
 ) -> Result<Decision, NoMemory>
-    requires change_asked { AsksBy store.old.content doc plan }
+    requires change_asked { AsksForPlan store.old.content doc plan }
     ensures decides_by_plan { IfOk result
-        (λ d. Decides (λ a. a ≡ answer_by store.old.content doc closes plan) store.new d) }
+        (λ d. DecidesAnswer (λ a. a ≡ answer_of_plan store.old.content doc closes plan) store.new
+        d) }
     ensures contents_unchanged { store.new.content ≡ store.old.content }
 {
     match plan {

@@ -1,27 +1,27 @@
 //! PUT and DELETE of documents (RFC 4825, sections 8.2 and 8.4).
 ghost use Rattle.std.specs.Prelude.{◌≡◌, false, IfOk, Some};
-ghost use Rattle.doc_names.specs.Ids.{IsAddressable};
+ghost use Rattle.doc_names.specs.DocIds.{IsAddressable};
 ghost use Rattle.doc_names.specs.Usages.{usage_of};
 ghost use Rattle.edit_ops.specs.declared.change.Change.TheVariants as changes;
-ghost use Rattle.store_core.specs.Queries.{Asks, MayBe};
-ghost use Rattle.store_core.specs.ValidStates.{IsUserDocument};
-ghost use Rattle.request_checks.specs.MediaTypes.{document_media};
+ghost use Rattle.store_core.specs.ChangePreconditions.{MayRequest, MayBeDocument};
+ghost use Rattle.store_core.specs.ValidStates.{IsUserHome};
+ghost use Rattle.request_checks.specs.MediaTypes.{document_media_type};
 ghost use Rattle.xcap_machine.specs.Resources.{version_of};
 ghost use Rattle.xcap_machine.specs.DocumentWrites.{DeletesDocument, PutsBody, PutsDocument};
-ghost use Rattle.xcap_machine.specs.DocumentWrites.{change_answer, deleted_reply, put_answer};
+ghost use Rattle.xcap_machine.specs.DocumentWrites.{change_answer, delete_reply, put_answer};
 ghost use Rattle.xcap_machine.specs.DocumentWrites.{put_change};
-ghost use Rattle.xcap_machine.specs.inner.Cases.{version_tag};
-ghost use Rattle.xcap_put.specs.Decisions.{Decides};
+ghost use Rattle.xcap_machine.specs.inner.AnswerCases.{version_tag};
+ghost use Rattle.xcap_put.specs.Decisions.{DecidesAnswer};
 
 use crate::decisions::decide_change;
 use crate::refusal_replies::refusal_reply;
-use crate::request_bodies::{Body, body_of};
+use crate::request_bodies::{Body, read_request_body};
 use crate::{Decision, NoMemory};
 use doc_names::{DocId, Usage};
 use edit_ops::Change;
 use http_wire::Request;
 use reply_text::Reply;
-use request_checks::{condition_reply, document_media};
+use request_checks::{condition_reply, document_media_type};
 use std::alloc::Global;
 use store_core::Store;
 use xml_tree::{Element, Path};
@@ -59,11 +59,11 @@ fn put_tree(
     closes: bool,
 ) -> Result<Decision, NoMemory>
     requires readable { IsAddressable doc }
-    requires user_document { IsUserDocument doc.home }
+    requires user_document { IsUserHome doc.home }
     requires usage_of_doc { usage_of doc.auid ≡ Some usage }
-    requires may_be { MayBe usage root }
+    requires may_be { MayBeDocument usage root }
     ensures decides_put { IfOk result
-        (λ d. Decides (λ a. a ≡ put_answer store.old.content doc closes root) store.new d) }
+        (λ d. DecidesAnswer (λ a. a ≡ put_answer store.old.content doc closes root) store.new d) }
     ensures contents_unchanged { store.new.content ≡ store.old.content }
 {
     let exists = tag_of(store, &doc).is_some();
@@ -71,7 +71,7 @@ fn put_tree(
 }
 
 // Puts a document after the conditions passed.
-fn put_body(
+fn put_document_body(
     alloc: Global,
     store: &mut Store,
     doc: DocId,
@@ -79,15 +79,15 @@ fn put_body(
     request: &Request,
 ) -> Result<Decision, NoMemory>
     requires readable { IsAddressable doc }
-    requires user_document { IsUserDocument doc.home }
+    requires user_document { IsUserHome doc.home }
     requires usage_of_doc { usage_of doc.auid ≡ Some usage }
     ensures decides_by_body { IfOk result (λ d.
-        Decides (PutsBody usage (document_media doc.auid) request.now
+        DecidesAnswer (PutsBody usage (document_media_type doc.auid) request.now
         (put_answer store.old.content doc request.now.closes)) store.new d) }
     ensures contents_unchanged { store.new.content ≡ store.old.content }
 {
-    let media = document_media(doc.auid);
-    match body_of(alloc, usage, media, request)? {
+    let media = document_media_type(doc.auid);
+    match read_request_body(alloc, usage, media, request)? {
         Body::Refused(reply) => Ok(Decision::Stays(reply)),
         Body::Document(root) => put_tree(alloc, store, doc, usage, root, request.closes),
     }
@@ -108,27 +108,32 @@ pub fn put_document(
     request: &Request,
 ) -> Result<Decision, NoMemory>
     requires readable { IsAddressable doc }
-    requires user_document { IsUserDocument doc.home }
+    requires user_document { IsUserHome doc.home }
     requires usage_of_doc { usage_of doc.auid ≡ Some usage }
     ensures decides_put { IfOk result
-        (λ d. Decides (PutsDocument store.old.content doc usage request.now) store.new d) }
+        (λ d. DecidesAnswer (PutsDocument store.old.content doc usage request.now) store.new d) }
     ensures contents_unchanged { store.new.content ≡ store.old.content }
 {
     let tag = tag_of(store, &doc);
     match condition_reply(alloc, request, tag, tag.is_some(), false)? {
         Some(reply) => Ok(Decision::Stays(reply)),
-        None => put_body(alloc, store, doc, usage, request),
+        None => put_document_body(alloc, store, doc, usage, request),
     }
 }
 
 // ---- DELETE
 
 // Removes a stored document.
-fn remove(alloc: Global, store: &mut Store, doc: DocId, closes: bool) -> Result<Decision, NoMemory>
-    requires stored_there { Asks store.old.content doc changes.RemoveDocument }
+fn remove_document(
+    alloc: Global,
+    store: &mut Store,
+    doc: DocId,
+    closes: bool,
+) -> Result<Decision, NoMemory>
+    requires stored_there { MayRequest store.old.content doc changes.RemoveDocument }
     ensures decides_removal { IfOk result (λ d.
-        Decides (λ a. a ≡ change_answer store.old.content doc changes.RemoveDocument closes
-        (deleted_reply closes)) store.new d) }
+        DecidesAnswer (λ a. a ≡ change_answer store.old.content doc changes.RemoveDocument closes
+        (delete_reply closes)) store.new d) }
     ensures contents_unchanged { store.new.content ≡ store.old.content }
 {
     match store.prepare(doc, Change::RemoveDocument)? {
@@ -153,12 +158,12 @@ fn delete_stored_document(
 ) -> Result<Decision, NoMemory>
     requires tag_of_version { Some tag ≡ version_tag (version_of store.old.content doc) }
     ensures decides_removal { IfOk result
-        (λ d. Decides (DeletesDocument store.old.content doc request.now) store.new d) }
+        (λ d. DecidesAnswer (DeletesDocument store.old.content doc request.now) store.new d) }
     ensures contents_unchanged { store.new.content ≡ store.old.content }
 {
     match condition_reply(alloc, request, Some(tag), true, false)? {
         Some(reply) => Ok(Decision::Stays(reply)),
-        None => remove(alloc, store, doc, request.closes),
+        None => remove_document(alloc, store, doc, request.closes),
     }
 }
 
@@ -175,7 +180,7 @@ pub fn delete_document(
     request: &Request,
 ) -> Result<Decision, NoMemory>
     ensures decides_removal { IfOk result
-        (λ d. Decides (DeletesDocument store.old.content doc request.now) store.new d) }
+        (λ d. DecidesAnswer (DeletesDocument store.old.content doc request.now) store.new d) }
     ensures contents_unchanged { store.new.content ≡ store.old.content }
 {
     match tag_of(store, &doc) {

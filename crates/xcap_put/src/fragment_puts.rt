@@ -5,31 +5,33 @@ ghost use Rattle.xml_tree.specs.Tree.{at, height};
 ghost use Rattle.reply_bodies.specs.declared.conflicts.ErrorBody.TheVariants as conflicts;
 ghost use Rattle.doc_names.specs.declared.doc_id.DocId.{DocId as TheDocId};
 ghost use Rattle.node_select.specs.declared.selector.End.TheVariants as ends;
-ghost use Rattle.tree_text.specs.Faults.{TextAnswer};
-ghost use Rattle.xml_names.specs.Memory.{Answered};
-ghost use Rattle.edit_rules.specs.Puts.{HasRoomAt, IsProperAt};
+ghost use Rattle.tree_text.specs.Faults.{IsTextResult};
+ghost use Rattle.xml_names.specs.ReadErrors.{ResultSatisfies};
+ghost use Rattle.edit_rules.specs.ElementPuts.{FitsWithinLevelsAt, IsProperAt};
 ghost use Rattle.edit_rules.specs.Spots.{IsSpotOf};
 ghost use Rattle.edit_rules.specs.declared.spot.Spot.TheVariants.{Value};
-ghost use Rattle.store_core.specs.ValidStates.{IsSound};
-ghost use Rattle.xcap_machine.specs.Answers.{conflict};
+ghost use Rattle.store_core.specs.ValidStates.{IsSoundDocument};
+ghost use Rattle.xcap_machine.specs.Answers.{error_reply};
 ghost use Rattle.xcap_machine.specs.DocumentWrites.{text_conflict};
 ghost use Rattle.xcap_put.specs.declared.plan.Plan.TheVariants.{Stops};
-ghost use Rattle.xcap_machine.specs.NodeWrites.{MayBeWritten, PutsAt, PutsElement, PutsFragment};
-ghost use Rattle.xcap_machine.specs.NodeWrites.{PutsValue, is_there, levels_for, scope_for};
+ghost use Rattle.xcap_machine.specs.NodeWrites.{IsWritableSelector, PutsAtEditTarget, PutsElement};
+ghost use Rattle.xcap_machine.specs.NodeWrites.{PutsFragment};
+ghost use Rattle.xcap_machine.specs.NodeWrites.{PutsValue, node_exists, max_height_at};
+ghost use Rattle.xcap_machine.specs.NodeWrites.{edit_target_scope};
 ghost use Rattle.xcap_machine.specs.NodeWrites.{value_conflict};
 ghost use Rattle.xcap_put.specs.inner.RequestPlans.{IsPlanFor, SpotExists};
 
 use crate::NoMemory;
 use crate::conflicts::conflict_reply;
-use crate::plan::{Plan, plan_of};
+use crate::plan::{Plan, plan_from_result};
 use crate::request_bodies::text_conflict;
 use doc_names::Usage;
 use edit_plans::{Spot, plan_attr, plan_put};
 use http_wire::Request;
 use node_select::Selector;
-use reply_bodies::{ErrorBody, node_media};
+use reply_bodies::{ErrorBody, node_media_type};
 use reply_text::Reply;
-use request_checks::has_type;
+use request_checks::has_media_type;
 use std::alloc::Global;
 use tree_text::{TextFault, ValueFault, read_att_value, read_fragment};
 use xml_names::{MAX_LEVELS, ReadError};
@@ -60,9 +62,9 @@ fn scope_around<'a>(tree: &'a Element, path: &Path) -> Scope<'a>
 }
 
 // The declarations in scope around an element that is put at an edit target.
-fn scope_for<'a>(tree: &'a Element, spot: &Spot) -> Scope<'a>
+fn edit_target_scope<'a>(tree: &'a Element, spot: &Spot) -> Scope<'a>
     requires valid_spot { SpotExists tree.now spot.now }
-    ensures exact { result ≡ scope_for tree.now spot.now }
+    ensures exact { result ≡ edit_target_scope tree.now spot.now }
 {
     match spot {
         Spot::Over(path) => scope_around(tree, path),
@@ -73,8 +75,8 @@ fn scope_for<'a>(tree: &'a Element, spot: &Spot) -> Scope<'a>
 }
 
 // The greatest height of an element at an edit target.
-fn levels_for(spot: &Spot) -> usize
-    ensures exact { result ≡ levels_for spot.now }
+fn max_height_at(spot: &Spot) -> usize
+    ensures exact { result ≡ max_height_at spot.now }
 {
     match spot {
         Spot::Over(path) => MAX_LEVELS.saturating_sub(path.numbers().len()),
@@ -93,18 +95,20 @@ fn read_element(
 ) -> Result<Element, ReadError<TextFault>>
     requires height_bounded { height tree.now ≤ MAX_LEVELS }
     requires valid_spot { SpotExists tree.now spot.now }
-    ensures grammar_answer { Answered
-        (TextAnswer (levels_for spot.now) (scope_for tree.now spot.now) bytes.now) result }
-    ensures is_proper { IfOk result (λ e. IsProperAt tree.now spot.now e × HasRoomAt spot.now e) }
+    ensures grammar_answer { ResultSatisfies
+        (IsTextResult (max_height_at spot.now) (edit_target_scope tree.now spot.now) bytes.now)
+        result }
+    ensures is_proper { IfOk result
+        (λ e. IsProperAt tree.now spot.now e × FitsWithinLevelsAt spot.now e) }
 {
-    let scope = scope_for(tree, spot);
-    read_fragment(alloc, bytes, &scope, levels_for(spot))
+    let scope = edit_target_scope(tree, spot);
+    read_fragment(alloc, bytes, &scope, max_height_at(spot))
 }
 
 // The reply to a body that is no element.
-fn refused_element(alloc: Global, fault: TextFault, closes: bool) -> Result<Plan, NoMemory>
+fn element_refusal_plan(alloc: Global, fault: TextFault, closes: bool) -> Result<Plan, NoMemory>
     ensures fault_reply { IfOk result
-        (λ plan. plan ≡ Stops (conflict (text_conflict conflicts.NotXmlFrag fault) closes)) }
+        (λ plan. plan ≡ Stops (error_reply (text_conflict conflicts.NotXmlFrag fault) closes)) }
 {
     let body = text_conflict(ErrorBody::NotXmlFrag, fault);
     let reply = conflict_reply(alloc, &body, closes)?;
@@ -121,10 +125,10 @@ fn put_element(
     exists: bool,
     request: &Request,
 ) -> Result<Plan, NoMemory>
-    requires is_sound { IsSound usage tree.now }
+    requires is_sound { IsSoundDocument usage tree.now }
     requires valid_spot { IsSpotOf tree.now selector.now spot.now }
     requires selector_end { selector.now.end ≡ ends.Element }
-    requires exists_iff { exists ≡ is_there tree.now selector.now }
+    requires exists_iff { exists ≡ node_exists tree.now selector.now }
     ensures plans_put { IfOk result
         (λ plan. (id : TheDocId) → IsPlanFor usage tree.now id request.now.closes
         (λ c a. PutsElement c
@@ -134,9 +138,9 @@ fn put_element(
     match read_element(alloc, tree, spot, request.body.as_slice()) {
         Ok(element) => {
             let planned = plan_put(alloc, usage, tree, selector, spot, element);
-            plan_of(alloc, planned, exists, request.closes)
+            plan_from_result(alloc, planned, exists, request.closes)
         }
-        Err(ReadError::Fault(fault)) => refused_element(alloc, fault, request.closes),
+        Err(ReadError::Fault(fault)) => element_refusal_plan(alloc, fault, request.closes),
         Err(ReadError::NoMemory) => Err(NoMemory),
     }
 }
@@ -154,9 +158,9 @@ fn value_conflict(fault: ValueFault) -> ErrorBody
 }
 
 // The reply to a body that is no attribute value.
-fn refused_value(alloc: Global, fault: ValueFault, closes: bool) -> Result<Plan, NoMemory>
+fn value_refusal_plan(alloc: Global, fault: ValueFault, closes: bool) -> Result<Plan, NoMemory>
     ensures fault_reply { IfOk result
-        (λ plan. plan ≡ Stops (conflict (value_conflict fault) closes)) }
+        (λ plan. plan ≡ Stops (error_reply (value_conflict fault) closes)) }
 {
     let body = value_conflict(fault);
     let reply = conflict_reply(alloc, &body, closes)?;
@@ -174,10 +178,10 @@ fn put_value(
     exists: bool,
     request: &Request,
 ) -> Result<Plan, NoMemory>
-    requires is_sound { IsSound usage tree.now }
-    requires writable { MayBeWritten selector.now }
+    requires is_sound { IsSoundDocument usage tree.now }
+    requires writable { IsWritableSelector selector.now }
     requires valid_spot { IsSpotOf tree.now selector.now (Value path.now) }
-    requires exists_iff { exists ≡ is_there tree.now selector.now }
+    requires exists_iff { exists ≡ node_exists tree.now selector.now }
     ensures plans_put { IfOk result
         (λ plan. (id : TheDocId) → IsPlanFor usage tree.now id request.now.closes
         (λ c a. PutsValue c
@@ -187,9 +191,9 @@ fn put_value(
     match read_att_value(alloc, request.body.as_slice()) {
         Ok(value) => {
             let planned = plan_attr(alloc, usage, tree, selector, path, value)?;
-            plan_of(alloc, planned, exists, request.closes)
+            plan_from_result(alloc, planned, exists, request.closes)
         }
-        Err(ReadError::Fault(fault)) => refused_value(alloc, fault, request.closes),
+        Err(ReadError::Fault(fault)) => value_refusal_plan(alloc, fault, request.closes),
         Err(ReadError::NoMemory) => Err(NoMemory),
     }
 }
@@ -197,7 +201,7 @@ fn put_value(
 // ---- elements and attributes
 
 // The plan of a PUT of a node, where the media type is that of nodes of its kind.
-fn put_body(
+fn put_node_body(
     alloc: Global,
     usage: Usage,
     tree: &Element,
@@ -206,13 +210,13 @@ fn put_body(
     exists: bool,
     request: &Request,
 ) -> Result<Plan, NoMemory>
-    requires is_sound { IsSound usage tree.now }
-    requires writable { MayBeWritten selector.now }
+    requires is_sound { IsSoundDocument usage tree.now }
+    requires writable { IsWritableSelector selector.now }
     requires valid_spot { IsSpotOf tree.now selector.now spot.now }
-    requires exists_iff { exists ≡ is_there tree.now selector.now }
+    requires exists_iff { exists ≡ node_exists tree.now selector.now }
     ensures plans_put { IfOk result
         (λ plan. (id : TheDocId) → IsPlanFor usage tree.now id request.now.closes
-        (λ c a. PutsAt c
+        (λ c a. PutsAtEditTarget c
         (record { id = id; usage = usage; selector = selector.now; request = request.now })
         tree.now spot.now a) plan) }
 {
@@ -239,18 +243,18 @@ pub(crate) fn put_fragment(
     exists: bool,
     request: &Request,
 ) -> Result<Plan, NoMemory>
-    requires is_sound { IsSound usage tree.now }
-    requires writable { MayBeWritten selector.now }
+    requires is_sound { IsSoundDocument usage tree.now }
+    requires writable { IsWritableSelector selector.now }
     requires valid_spot { IsSpotOf tree.now selector.now spot.now }
-    requires exists_iff { exists ≡ is_there tree.now selector.now }
+    requires exists_iff { exists ≡ node_exists tree.now selector.now }
     ensures plans_put { IfOk result
         (λ plan. (id : TheDocId) → IsPlanFor usage tree.now id request.now.closes
         (λ c a. PutsFragment c
         (record { id = id; usage = usage; selector = selector.now; request = request.now })
         tree.now spot.now a) plan) }
 {
-    if !has_type(request, node_media(&selector.end)) {
+    if !has_media_type(request, node_media_type(&selector.end)) {
         return Ok(Plan::Stops(Reply::fixed(415, request.closes)));
     }
-    put_body(alloc, usage, tree, selector, spot, exists, request)
+    put_node_body(alloc, usage, tree, selector, spot, exists, request)
 }

@@ -5,18 +5,19 @@ ghost use Rattle.doc_names.specs.Usages.{usage_of};
 ghost use Rattle.doc_names.specs.declared.doc_id.DocId.{DocId as TheDocId};
 ghost use Rattle.node_select.specs.declared.selector.End.TheVariants as ends;
 ghost use Rattle.edit_rules.specs.Spots.{IsSpotOf};
-ghost use Rattle.edit_rules.specs.declared.refusal.EditRefusal.TheVariants as refusals;
-ghost use Rattle.store_core.specs.ValidStates.{IsSound};
-ghost use Rattle.xcap_machine.specs.Answers.{AfterConditions, unchanged};
-ghost use Rattle.xcap_machine.specs.NodeWrites.{DeletesNode, PutsFragment, PutsNode, MayBeWritten};
-ghost use Rattle.xcap_machine.specs.NodeWrites.{is_there};
+ghost use Rattle.edit_rules.specs.declared.edit_refusal.EditRefusal.TheVariants as refusals;
+ghost use Rattle.store_core.specs.ValidStates.{IsSoundDocument};
+ghost use Rattle.xcap_machine.specs.Answers.{AppliesConditions, reply_only};
+ghost use Rattle.xcap_machine.specs.NodeWrites.{DeletesNode, PutsFragment, PutsNode};
+ghost use Rattle.xcap_machine.specs.NodeWrites.{IsWritableSelector};
+ghost use Rattle.xcap_machine.specs.NodeWrites.{node_exists};
 ghost use Rattle.xcap_machine.specs.Resources.{version_of};
 ghost use Rattle.xcap_machine.specs.DocumentWrites.{missing_parent_answer};
-ghost use Rattle.xcap_machine.specs.inner.Cases.{DeletesNodeOf, PutsNodeOf};
-ghost use Rattle.xcap_put.specs.Decisions.{Decides};
-ghost use Rattle.xcap_put.specs.inner.RequestPlans.{IsRemovalPlan, IsPlanFor, IsPlanOf};
+ghost use Rattle.xcap_machine.specs.inner.AnswerCases.{DeletesNodeOfVersion, PutsNodeOfVersion};
+ghost use Rattle.xcap_put.specs.Decisions.{DecidesAnswer};
+ghost use Rattle.xcap_put.specs.inner.RequestPlans.{IsRemovalPlan, IsPlanFor, IsPlanFromResult};
 
-use crate::conflicts::no_parent;
+use crate::conflicts::no_parent_reply;
 use crate::decisions::decide_plan;
 use crate::fragment_puts::put_fragment;
 use crate::plan::Plan;
@@ -38,7 +39,7 @@ use xml_tree::Element;
 fn version_of<'a>(store: &'a Store, doc: &DocId, usage: Usage) -> Option<(&'a Element, u64)>
     requires usage_of_doc { usage_of doc.now.auid ≡ Some usage }
     ensures exact { option_map (λ v. (v.0.now, v.1)) result ≡ version_of store.now.content doc.now }
-    ensures stored_sound { IfSome result (λ v. IsSound usage v.0.now) }
+    ensures stored_sound { IfSome result (λ v. IsSoundDocument usage v.0.now) }
 {
     store.get(doc)
 }
@@ -46,9 +47,9 @@ fn version_of<'a>(store: &'a Store, doc: &DocId, usage: Usage) -> Option<(&'a El
 // ---- PUT
 
 // Whether the node at an edit target is there already.
-fn is_there(alloc: Global, tree: &Element, selector: &Selector, spot: &Spot) -> bool
+fn node_exists(alloc: Global, tree: &Element, selector: &Selector, spot: &Spot) -> bool
     requires valid_spot { IsSpotOf tree.now selector.now spot.now }
-    ensures there_before { result ≡ is_there tree.now selector.now }
+    ensures there_before { result ≡ node_exists tree.now selector.now }
 {
     match spot {
         Spot::Over(_) => true,
@@ -59,7 +60,7 @@ fn is_there(alloc: Global, tree: &Element, selector: &Selector, spot: &Spot) -> 
 }
 
 // The plan of a PUT of a node with this edit target in a document with this tree and this tag.
-fn plan_at(
+fn plan_put_at(
     alloc: Global,
     usage: Usage,
     tree: &Element,
@@ -68,18 +69,18 @@ fn plan_at(
     spot: &Spot,
     request: &Request,
 ) -> Result<Plan, NoMemory>
-    requires is_sound { IsSound usage tree.now }
-    requires writable { MayBeWritten selector.now }
+    requires is_sound { IsSoundDocument usage tree.now }
+    requires writable { IsWritableSelector selector.now }
     requires valid_spot { IsSpotOf tree.now selector.now spot.now }
     ensures plans_put { IfOk result
         (λ plan. (id : TheDocId) → IsPlanFor usage tree.now id request.now.closes
-        (λ c a. AfterConditions request.now
-        (record { tag = Some tag; exists = is_there tree.now selector.now }) false a
+        (λ c a. AppliesConditions request.now
+        (record { tag = Some tag; exists = node_exists tree.now selector.now }) false a
         (PutsFragment c
         (record { id = id; usage = usage; selector = selector.now; request = request.now })
         tree.now spot.now a)) plan) }
 {
-    let exists = is_there(alloc, tree, selector, spot);
+    let exists = node_exists(alloc, tree, selector, spot);
     match condition_reply(alloc, request, Some(tag), exists, false)? {
         Some(reply) => Ok(Plan::Stops(reply)),
         None => put_fragment(alloc, usage, tree, selector, spot, exists, request),
@@ -87,7 +88,7 @@ fn plan_at(
 }
 
 // The plan of a PUT of a node of a document that is stored with this tree and this tag.
-fn plan_put_in(
+fn plan_put_in_document(
     alloc: Global,
     root: &Root,
     doc: &DocId,
@@ -96,21 +97,21 @@ fn plan_put_in(
     selector: &Selector,
     request: &Request,
 ) -> Result<Plan, NoMemory>
-    requires is_sound { IsSound usage held.0.now }
+    requires is_sound { IsSoundDocument usage held.0.now }
     requires selects_node { selector.now.end ≡ ends.Namespaces → ⊥ }
-    requires writable { MayBeWritten selector.now }
+    requires writable { IsWritableSelector selector.now }
     ensures plans_put { IfOk result
         (λ plan. IsPlanFor usage held.entry.0.now doc.now request.now.closes
-        (λ c a. PutsNodeOf (record { root = root.now; content = c })
+        (λ c a. PutsNodeOfVersion (record { root = root.now; content = c })
         (record { id = doc.now; usage = usage; selector = selector.now; request = request.now })
         (held.entry.0.now, held.entry.1) a) plan) }
 {
     let (tree, tag) = held;
     match put_spot(alloc, tree, selector) {
-        Ok(spot) => plan_at(alloc, usage, tree, tag, selector, &spot, request),
+        Ok(spot) => plan_put_at(alloc, usage, tree, tag, selector, &spot, request),
         Err(_) => {
             let uri = ancestor_uri(alloc, root, doc, tree, selector)?;
-            let reply = no_parent(alloc, uri, request.closes)?;
+            let reply = no_parent_reply(alloc, uri, request.closes)?;
             Ok(Plan::Stops(reply))
         }
     }
@@ -137,16 +138,16 @@ pub fn put_node(
 ) -> Result<Decision, NoMemory>
     requires usage_of_doc { usage_of doc.auid ≡ Some usage }
     requires selects_node { selector.now.end ≡ ends.Namespaces → ⊥ }
-    requires writable { MayBeWritten selector.now }
+    requires writable { IsWritableSelector selector.now }
     ensures decides_put { IfOk result
-        (λ d. Decides (PutsNode (record { root = root.now; content = store.old.content })
+        (λ d. DecidesAnswer (PutsNode (record { root = root.now; content = store.old.content })
         (record { id = doc; usage = usage; selector = selector.now; request = request.now }))
         store.new d) }
     ensures contents_unchanged { store.new.content ≡ store.old.content }
 {
     match version_of(store, &doc, usage) {
         Some(held) => {
-            let plan = plan_put_in(alloc, root, &doc, usage, held, selector, request)?;
+            let plan = plan_put_in_document(alloc, root, &doc, usage, held, selector, request)?;
             decide_plan(alloc, store, doc, plan, request.closes)
         }
         None => {
@@ -169,10 +170,10 @@ pub fn missing_parent_reply(
     request: &Request,
 ) -> Result<Reply, NoMemory>
     ensures reply_or_missing { IfOk result
-        (λ r. missing_parent_answer root.now auid home.now request.now ≡ unchanged r) }
+        (λ r. missing_parent_answer root.now auid home.now request.now ≡ reply_only r) }
 {
     let uri = home_uri(alloc, root, auid, home)?;
-    no_parent(alloc, uri, request.closes)
+    no_parent_reply(alloc, uri, request.closes)
 }
 
 // ---- DELETE
@@ -180,7 +181,7 @@ pub fn missing_parent_reply(
 // The plan of a DELETE that is refused for this reason; None where nothing is found.
 fn removal_refusal(alloc: Global, why: EditRefusal, closes: bool) -> Result<Option<Plan>, NoMemory>
     ensures reason_reply { IfOk result (λ plan. MatchOption plan (why ≡ refusals.NotFound)
-        (λ p. (why ≢ refusals.NotFound) × IsPlanOf (Err why) true closes p)) }
+        (λ p. (why ≢ refusals.NotFound) × IsPlanFromResult (Err why) true closes p)) }
 {
     match why {
         EditRefusal::NotFound => Ok(None),
@@ -199,7 +200,7 @@ fn plan_node_removal(
     selector: &Selector,
     request: &Request,
 ) -> Result<Option<Plan>, NoMemory>
-    requires is_sound { IsSound usage tree.now }
+    requires is_sound { IsSoundDocument usage tree.now }
     requires selects_node { selector.now.end ≡ ends.Namespaces → ⊥ }
     ensures plans_removal { IfOk result
         (λ plan. IsRemovalPlan usage tree.now selector.now request.now plan) }
@@ -216,18 +217,18 @@ fn plan_node_removal(
 
 // The plan of a DELETE of a node of a document that is stored with this tree and this tag. The
 // document is descended once: the plan shows whether the node is there.
-fn plan_delete_in(
+fn plan_delete_in_document(
     alloc: Global,
     usage: Usage,
     held: (&Element, u64),
     selector: &Selector,
     request: &Request,
 ) -> Result<Plan, NoMemory>
-    requires is_sound { IsSound usage held.0.now }
+    requires is_sound { IsSoundDocument usage held.0.now }
     requires selects_node { selector.now.end ≡ ends.Namespaces → ⊥ }
     ensures plans_removal { IfOk result
         (λ plan. (id : TheDocId) → IsPlanFor usage held.entry.0.now id request.now.closes
-        (λ c a. DeletesNodeOf c
+        (λ c a. DeletesNodeOfVersion c
         (record { id = id; usage = usage; selector = selector.now; request = request.now })
         (held.entry.0.now, held.entry.1) a) plan) }
 {
@@ -266,14 +267,14 @@ pub fn delete_node(
     requires usage_of_doc { usage_of doc.auid ≡ Some usage }
     requires selects_node { selector.now.end ≡ ends.Namespaces → ⊥ }
     ensures decides_removal { IfOk result
-        (λ d. Decides (DeletesNode store.old.content
+        (λ d. DecidesAnswer (DeletesNode store.old.content
         (record { id = doc; usage = usage; selector = selector.now; request = request.now }))
         store.new d) }
     ensures contents_unchanged { store.new.content ≡ store.old.content }
 {
     match version_of(store, &doc, usage) {
         Some(held) => {
-            let plan = plan_delete_in(alloc, usage, held, selector, request)?;
+            let plan = plan_delete_in_document(alloc, usage, held, selector, request)?;
             decide_plan(alloc, store, doc, plan, request.closes)
         }
         None => Ok(Decision::Stays(Reply::fixed(404, request.closes))),

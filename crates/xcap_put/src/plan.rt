@@ -1,6 +1,6 @@
 //! The plan of a request on a node, before the store is asked (RFC 4825, sections 8.2 and 8.4).
 ghost use Rattle.std.specs.Prelude.{IfOk};
-ghost use Rattle.xcap_put.specs.inner.RequestPlans.{IsPlanOf};
+ghost use Rattle.xcap_put.specs.inner.RequestPlans.{IsPlanFromResult};
 
 use crate::NoMemory;
 use crate::refusal_replies::unplanned;
@@ -20,13 +20,13 @@ pub(crate) enum Plan {
 }
 
 /// The plan of a planned change, or of the reason why there is none.
-pub(crate) fn plan_of(
+pub(crate) fn plan_from_result(
     alloc: Global,
     planned: Result<Change, EditRefusal>,
     exists: bool,
     closes: bool,
 ) -> Result<Plan, NoMemory>
-    ensures exact_plan { IfOk result (λ plan. IsPlanOf planned exists closes plan) }
+    ensures exact_plan { IfOk result (λ plan. IsPlanFromResult planned exists closes plan) }
 {
     match planned {
         Ok(change) => Ok(Plan::Makes { change, exists }),

@@ -1,12 +1,12 @@
 //! Replies to changes that aren't made (RFC 4825, section 11; RFC 4918, section 11.5).
 ghost use Rattle.std.specs.Prelude.{◌≡◌, IfOk};
-ghost use Rattle.xcap_machine.specs.Answers.{conflict};
-ghost use Rattle.xcap_machine.specs.NodeWrites.{plan_refused};
+ghost use Rattle.xcap_machine.specs.Answers.{error_reply};
+ghost use Rattle.xcap_machine.specs.NodeWrites.{plan_refusal_reply};
 ghost use Rattle.xcap_machine.specs.DocumentWrites.{clash_field, fault_conflict, refusal_reply};
 ghost use Rattle.reply_bodies.specs.declared.conflicts.ErrorBody.TheVariants as conflicts;
 
 use crate::NoMemory;
-use crate::conflicts::{conflict_reply, fault_conflict, uniqueness};
+use crate::conflicts::{conflict_reply, fault_conflict, uniqueness_conflict};
 use edit_plans::EditRefusal;
 use reply_bodies::ErrorBody;
 use reply_text::Reply;
@@ -17,9 +17,9 @@ use usage_docs::{Clash, Fault};
 // The reply where another document has a service address.
 fn taken_address_reply(alloc: Global, clash: Clash, closes: bool) -> Result<Reply, NoMemory>
     ensures ok { IfOk result
-        (λ reply. reply ≡ conflict (conflicts.Unique (clash_field clash)) closes) }
+        (λ reply. reply ≡ error_reply (conflicts.Unique (clash_field clash)) closes) }
 {
-    let body = uniqueness(alloc, &clash)?;
+    let body = uniqueness_conflict(alloc, &clash)?;
     conflict_reply(alloc, &body, closes)
 }
 
@@ -41,9 +41,9 @@ pub(crate) fn refusal_reply(
 }
 
 // The reply to a change that would give a document this fault.
-fn faulty(alloc: Global, fault: Fault, closes: bool) -> Result<Reply, NoMemory>
+fn fault_refusal_reply(alloc: Global, fault: Fault, closes: bool) -> Result<Reply, NoMemory>
     ensures fault_reply { IfOk result (λ reply. reply
-        ≡ conflict (fault_conflict fault) closes) }
+        ≡ error_reply (fault_conflict fault) closes) }
 {
     let body = fault_conflict(alloc, &fault)?;
     conflict_reply(alloc, &body, closes)
@@ -51,12 +51,12 @@ fn faulty(alloc: Global, fault: Fault, closes: bool) -> Result<Reply, NoMemory>
 
 /// The reply to a change of a node for which there is no planned change.
 pub(crate) fn unplanned(alloc: Global, why: EditRefusal, closes: bool) -> Result<Reply, NoMemory>
-    ensures ok { IfOk result (λ reply. reply ≡ plan_refused why closes) }
+    ensures ok { IfOk result (λ reply. reply ≡ plan_refusal_reply why closes) }
 {
     match why {
         EditRefusal::NotFound => Ok(Reply::fixed(404, closes)),
         EditRefusal::CannotInsert => conflict_reply(alloc, &ErrorBody::CannotInsert, closes),
         EditRefusal::CannotDelete => conflict_reply(alloc, &ErrorBody::CannotDelete, closes),
-        EditRefusal::Faulty(fault) => faulty(alloc, fault, closes),
+        EditRefusal::Faulty(fault) => fault_refusal_reply(alloc, fault, closes),
     }
 }

@@ -1,12 +1,12 @@
 //! The body of a PUT of a document (RFC 4825, section 8.2.2).
 ghost use Rattle.std.specs.Prelude.{◌≡◌, ◌≤◌, [], IfOk, Ok};
-ghost use Rattle.xml_tree.specs.Proper.{ProperIn};
+ghost use Rattle.xml_tree.specs.Proper.{IsProperTree};
 ghost use Rattle.xml_tree.specs.Tree.{height};
 ghost use Rattle.reply_bodies.specs.declared.conflicts.ErrorBody.TheVariants as conflicts;
-ghost use Rattle.xcap_machine.specs.Answers.{conflict};
-ghost use Rattle.xcap_machine.specs.DocumentWrites.{PutsBody, PutsSpelled, text_conflict};
-ghost use Rattle.xcap_machine.specs.inner.Cases.{PutsText};
-ghost use Rattle.xcap_put.specs.inner.Bodies.{Comes};
+ghost use Rattle.xcap_machine.specs.Answers.{error_reply};
+ghost use Rattle.xcap_machine.specs.DocumentWrites.{PutsBody, PutsParsedBody, text_conflict};
+ghost use Rattle.xcap_machine.specs.inner.AnswerCases.{PutsParsedText};
+ghost use Rattle.xcap_put.specs.inner.ReadBodies.{IsReadBody};
 
 use crate::NoMemory;
 use crate::conflicts::{conflict_reply, fault_conflict};
@@ -14,7 +14,7 @@ use doc_names::Usage;
 use http_wire::Request;
 use reply_bodies::ErrorBody;
 use reply_text::{MediaType, Reply};
-use request_checks::has_type;
+use request_checks::has_media_type;
 use std::alloc::Global;
 use tree_text::{TextFault, read_document};
 use usage_docs::first_fault;
@@ -45,9 +45,9 @@ pub(crate) fn text_conflict(malformed: ErrorBody, fault: TextFault) -> ErrorBody
 }
 
 // The reply to a text that is no document.
-fn refused_text(alloc: Global, fault: TextFault, closes: bool) -> Result<Reply, NoMemory>
+fn text_refusal_reply(alloc: Global, fault: TextFault, closes: bool) -> Result<Reply, NoMemory>
     ensures fault_reply { IfOk result
-        (λ reply. reply ≡ conflict (text_conflict conflicts.NotWellFormed fault) closes) }
+        (λ reply. reply ≡ error_reply (text_conflict conflicts.NotWellFormed fault) closes) }
 {
     let body = text_conflict(ErrorBody::NotWellFormed, fault);
     conflict_reply(alloc, &body, closes)
@@ -60,10 +60,11 @@ fn check_document(
     root: Element,
     closes: bool,
 ) -> Result<Body, NoMemory>
-    requires proper { ProperIn [] root }
+    requires proper { IsProperTree [] root }
     requires height_bounded { height root ≤ MAX_LEVELS }
     ensures comes_of_tree { IfOk result
-        (λ body. Comes (λ answer a. PutsText usage (Ok root) closes answer a) usage body) }
+        (λ body.
+        IsReadBody (λ answer a. PutsParsedText usage (Ok root) closes answer a) usage body) }
 {
     match first_fault(alloc, usage, &root) {
         None => Ok(Body::Document(root)),
@@ -77,14 +78,14 @@ fn check_document(
 }
 
 // Reads a body of the usage's media type.
-fn read_body(alloc: Global, usage: Usage, request: &Request) -> Result<Body, NoMemory>
+fn parse_body(alloc: Global, usage: Usage, request: &Request) -> Result<Body, NoMemory>
     ensures comes_of_text { IfOk result
-        (λ body. Comes (λ answer a. PutsSpelled usage request.now answer a) usage body) }
+        (λ body. IsReadBody (λ answer a. PutsParsedBody usage request.now answer a) usage body) }
 {
     match read_document(alloc, request.body.as_slice(), MAX_LEVELS) {
         Ok(root) => check_document(alloc, usage, root, request.closes),
         Err(ReadError::Fault(fault)) => {
-            let reply = refused_text(alloc, fault, request.closes)?;
+            let reply = text_refusal_reply(alloc, fault, request.closes)?;
             Ok(Body::Refused(reply))
         }
         Err(ReadError::NoMemory) => Err(NoMemory),
@@ -92,17 +93,17 @@ fn read_body(alloc: Global, usage: Usage, request: &Request) -> Result<Body, NoM
 }
 
 /// Reads the body of a PUT of a document of this usage, whose media type is `media`.
-pub(crate) fn body_of(
+pub(crate) fn read_request_body(
     alloc: Global,
     usage: Usage,
     media: MediaType,
     request: &Request,
 ) -> Result<Body, NoMemory>
     ensures comes_of_body { IfOk result
-        (λ body. Comes (λ answer a. PutsBody usage media request.now answer a) usage body) }
+        (λ body. IsReadBody (λ answer a. PutsBody usage media request.now answer a) usage body) }
 {
-    if !has_type(request, media) {
+    if !has_media_type(request, media) {
         return Ok(Body::Refused(Reply::fixed(415, request.closes)));
     }
-    read_body(alloc, usage, request)
+    parse_body(alloc, usage, request)
 }

@@ -12,39 +12,39 @@ use Rattle.node_select.specs.declared.selector.Selector.{Selector}
 use Rattle.edit_ops.specs.declared.change.Change.{Change}
 use Rattle.edit_ops.specs.declared.change.Change.TheVariants.{RemoveDocument}
 use Rattle.edit_ops.specs.Notes.{Note}
-use Rattle.edit_rules.specs.declared.refusal.EditRefusal.{EditRefusal}
+use Rattle.edit_rules.specs.declared.edit_refusal.EditRefusal.{EditRefusal}
 use Rattle.edit_rules.specs.declared.spot.NoParent.{NoParent}
 use Rattle.edit_rules.specs.declared.spot.Spot.{Spot}
 use Rattle.edit_rules.specs.declared.spot.Spot.TheVariants.{Over, Under, Beside, Value}
-use Rattle.reply_text.specs.ReplyHeads.{SentReply, plain}
+use Rattle.reply_text.specs.ReplyHeads.{SentReply, plain_reply}
 use Rattle.http_wire.specs.declared.request.Request.{Request}
-use Rattle.request_checks.specs.Conditions.{HasOutcome, stopped_by}
+use Rattle.request_checks.specs.Conditions.{HasOutcome, outcome_reply}
 use Rattle.request_checks.specs.declared.conditions.Outcome.{Outcome}
 use Rattle.request_checks.specs.declared.conditions.Outcome.TheVariants.{Unreadable, Go, NotModified, Failed}
-use Rattle.request_checks.specs.MediaTypes.{document_media, has_type}
+use Rattle.request_checks.specs.MediaTypes.{document_media_type, has_media_type}
 use Rattle.request_checks.specs.Methods.{is_reading, method_of}
 use Rattle.request_checks.specs.Rights.{is_allowed}
 use Rattle.request_checks.specs.declared.method.Method.{Method}
 use Rattle.request_checks.specs.declared.method.Method.TheVariants.{Get, Head, Put, Delete, Other}
-use Rattle.reply_bodies.specs.Nodes.{node_media}
+use Rattle.reply_bodies.specs.Nodes.{node_media_type}
 use Rattle.xcap_uri.specs.declared.fault.UriFault.{UriFault}
 use Rattle.xcap_uri.specs.declared.target.Target.{Target}
 use Rattle.xcap_uri.specs.declared.target.Target.TheVariants.{Document, Node, Deep, Feed, ElementFeed, Flat}
 use Rattle.store_core.specs.DocumentChanges.{change_result}
 use Rattle.store_core.specs.Contents.{StoreContents}
 use Rattle.store_core.specs.declared.refusal.StoreRefusal.{StoreRefusal}
-use Rattle.xcap_machine.specs.Answers.{Answer, AfterConditions, Made, unchanged}
-use Rattle.xcap_machine.specs.Requests.{ByMethod, ByTarget, ByUser, Deletes, IsAnswer, Puts, auid_of, home_of, takes}
+use Rattle.xcap_machine.specs.Answers.{Answer, AppliesConditions, MadeChange, reply_only}
+use Rattle.xcap_machine.specs.Requests.{AnswersByMethod, AnswersByTarget, AnswersByUser, DeletesTarget, IsAnswer, PutsTarget, auid_of, home_of, allows_method}
 use Rattle.xcap_machine.specs.Resources.{version_of}
-use Rattle.xcap_machine.specs.NodeWrites.{CutsNode, PutsAt, PutsElement, PutsFragment, PutsFrom, cut_reply, is_there, plan_answer}
-use Rattle.xcap_machine.specs.DocumentWrites.{IfStored, PutsBody, PutsDocument, PutsSpelled, change_answer, deleted_reply, put_answer, put_change, put_reply}
-use Rattle.xcap_machine.specs.inner.Cases.{DeletesDocumentIn, DeletesNodeIn, PutsElementText, PutsNodeIn, PutsValueText, IsAnswered, PutsText, by_judgement, version_tag, Behind}
-use Rattle.xcap_machine.specs.inner.Records.{representation, server_of, write_of}
+use Rattle.xcap_machine.specs.NodeWrites.{RemovesNode, PutsAtEditTarget, PutsElement, PutsFragment, PutsByEditTarget, node_delete_reply, node_exists, plan_answer}
+use Rattle.xcap_machine.specs.DocumentWrites.{WritesIfStored, PutsBody, PutsDocument, PutsParsedBody, change_answer, delete_reply, put_answer, put_change, put_reply}
+use Rattle.xcap_machine.specs.inner.AnswerCases.{DeletesDocumentIfStored, DeletesNodeIfStored, PutsElementText, PutsNodeIfStored, PutsValueText, IsAnswerByTarget, PutsParsedText, judgement_answer, version_tag, AnswersUnlessStopped}
+use Rattle.xcap_machine.specs.inner.RecordValues.{representation, server_state, node_write}
 use Rattle.xcap_machine.proofs.AcceptedRequests.{stopped_never}
 use Rattle.xcap_machine.proofs.ChangeAnswers.{as_the_store, told_by_store}
 
 -- The change, the request, and the other request's `closes`.
-module _ (made : Made) (request : Request) (closes : Bool) where
+module _ (made : MadeChange) (request : Request) (closes : Bool) where
   abbrev other : Request
   other = record request { closes = closes }
 
@@ -53,22 +53,22 @@ module _ (made : Made) (request : Request) (closes : Bool) where
   Makes Is = (b : Answer) × Is b × (b.made ≡ Some made)
 
   module _ (a : Answer) (makes : a.made ≡ Some made) where
-    never : {X : Type 0} (reply : SentReply) → a ≡ unchanged reply → X
+    never : {X : Type 0} (reply : SentReply) → a ≡ reply_only reply → X
     never reply is = absurd (stopped_never a reply made makes is)
 
-    when : (test : Bool) (P : Type 0) (Q : Answer → Type 0) (reply reply' : SentReply) → (P → Makes Q) → MatchBool test P (a ≡ unchanged reply) → Makes (λ b. MatchBool test (Q b) (b ≡ unchanged reply'))
+    when : (test : Bool) (P : Type 0) (Q : Answer → Type 0) (reply reply' : SentReply) → (P → Makes Q) → MatchBool test P (a ≡ reply_only reply) → Makes (λ b. MatchBool test (Q b) (b ≡ reply_only reply'))
     when true P Q reply reply' so is = so is
     when false P Q reply reply' so is = never reply is
 
     module _ (tag : Option ℕ) (exists : Bool) (P : Type 0) (Q : Answer → Type 0) (so : P → Makes Q) where
-      by_outcome : (o : Outcome) → HasOutcome request.fields tag exists false o → Behind (stopped_by o tag request.closes) a P → Makes (λ b. AfterConditions other (representation tag exists) false b (Q b))
+      by_outcome : (o : Outcome) → HasOutcome request.fields tag exists false o → AnswersUnlessStopped (outcome_reply o tag request.closes) a P → Makes (λ b. AppliesConditions other (representation tag exists) false b (Q b))
       by_outcome Unreadable has is = never _ is
       by_outcome Go has is = let m = so is in (m.0, (None, (Go, has, refl), m.1), m.2)
       by_outcome NotModified has is = never _ is
       by_outcome Failed has is = never _ is
 
-      behind : AfterConditions request (representation tag exists) false a P → Makes (λ b. AfterConditions other (representation tag exists) false b (Q b))
-      behind is = by_outcome is.1.0 is.1.1 (subst (λ (stop : Option SentReply). Behind stop a P) is.1.2 is.2)
+      behind : AppliesConditions request (representation tag exists) false a P → Makes (λ b. AppliesConditions other (representation tag exists) false b (Q b))
+      behind is = by_outcome is.1.0 is.1.1 (subst (λ (stop : Option SentReply). AnswersUnlessStopped stop a P) is.1.2 is.2)
 
     module _ (c : StoreContents) (id : DocId) (reply reply' : Note → SentReply) where
       by_store : (r : Result (Note × StoreContents) StoreRefusal) → a ≡ told_by_store id request.closes reply r → Makes (λ b. b ≡ told_by_store id closes reply' r)
@@ -87,82 +87,82 @@ module _ (made : Made) (request : Request) (closes : Bool) where
     -- ---- PUT
 
     module _ (c : StoreContents) (id : DocId) where
-      judged : (judgement : Option Fault) (t : Tree) → a ≡ by_judgement judgement request.closes (put_answer c id request.closes t) → Makes (λ b. b ≡ by_judgement judgement closes (put_answer c id closes t))
+      judged : (judgement : Option Fault) (t : Tree) → a ≡ judgement_answer judgement request.closes (put_answer c id request.closes t) → Makes (λ b. b ≡ judgement_answer judgement closes (put_answer c id closes t))
       judged (Some fault) t is = never _ is
       judged None t is =
           let exists = is_some (version_of c id) in
           by_change c id (put_reply exists request.closes) (put_reply exists closes) (put_change exists t) is
 
-      text : (usage : Usage) (read : Result Tree TextFault) → PutsText usage read request.closes (put_answer c id request.closes) a → Makes (λ b. PutsText usage read closes (put_answer c id closes) b)
+      text : (usage : Usage) (read : Result Tree TextFault) → PutsParsedText usage read request.closes (put_answer c id request.closes) a → Makes (λ b. PutsParsedText usage read closes (put_answer c id closes) b)
       text usage (Err fault) is = never _ is
       text usage (Ok t) is = let m = judged is.0 t is.2 in (m.0, (is.0, is.1, m.1), m.2)
 
-      spelled : (usage : Usage) → PutsSpelled usage request (put_answer c id request.closes) a → Makes (λ b. PutsSpelled usage other (put_answer c id closes) b)
+      spelled : (usage : Usage) → PutsParsedBody usage request (put_answer c id request.closes) a → Makes (λ b. PutsParsedBody usage other (put_answer c id closes) b)
       spelled usage is = let m = text usage is.0 is.2 in (m.0, (is.0, is.1, m.1), m.2)
 
       document_put : (usage : Usage) → PutsDocument c id usage request a → Makes (λ b. PutsDocument c id usage other b)
       document_put usage =
-          behind (version_tag (version_of c id)) (is_some (version_of c id)) (PutsBody usage (document_media id.auid) request (put_answer c id request.closes) a) (λ b. PutsBody usage (document_media id.auid) other (put_answer c id closes) b)
-          (when (has_type (document_media id.auid) request.fields) (PutsSpelled usage request (put_answer c id request.closes) a) (λ b. PutsSpelled usage other (put_answer c id closes) b)
-          (plain 415 request.closes) (plain 415 closes) (spelled usage))
+          behind (version_tag (version_of c id)) (is_some (version_of c id)) (PutsBody usage (document_media_type id.auid) request (put_answer c id request.closes) a) (λ b. PutsBody usage (document_media_type id.auid) other (put_answer c id closes) b)
+          (when (has_media_type (document_media_type id.auid) request.fields) (PutsParsedBody usage request (put_answer c id request.closes) a) (λ b. PutsParsedBody usage other (put_answer c id closes) b)
+          (plain_reply 415 request.closes) (plain_reply 415 closes) (spelled usage))
 
       module _ (usage : Usage) (selector : Selector) (t : Tree) where
-        planned : (plan : Result Change EditRefusal) → a ≡ plan_answer c id request.closes (put_reply (is_there t selector) request.closes) plan → Makes (λ b. b ≡ plan_answer c id closes (put_reply (is_there t selector) closes) plan)
-        planned = by_plan c id (put_reply (is_there t selector) request.closes) (put_reply (is_there t selector) closes)
+        planned : (plan : Result Change EditRefusal) → a ≡ plan_answer c id request.closes (put_reply (node_exists t selector) request.closes) plan → Makes (λ b. b ≡ plan_answer c id closes (put_reply (node_exists t selector) closes) plan)
+        planned = by_plan c id (put_reply (node_exists t selector) request.closes) (put_reply (node_exists t selector) closes)
 
-        element_text : (spot : Spot) (read : Result Tree TextFault) → PutsElementText c (write_of id usage selector request) t spot read a → Makes (λ b. PutsElementText c (write_of id usage selector other) t spot read b)
+        element_text : (spot : Spot) (read : Result Tree TextFault) → PutsElementText c (node_write id usage selector request) t spot read a → Makes (λ b. PutsElementText c (node_write id usage selector other) t spot read b)
         element_text spot (Err fault) is = never _ is
         element_text spot (Ok e) is = let m = planned is.0 is.2 in (m.0, (is.0, is.1, m.1), m.2)
 
-        element : (spot : Spot) → PutsElement c (write_of id usage selector request) t spot a → Makes (λ b. PutsElement c (write_of id usage selector other) t spot b)
+        element : (spot : Spot) → PutsElement c (node_write id usage selector request) t spot a → Makes (λ b. PutsElement c (node_write id usage selector other) t spot b)
         element spot is = let m = element_text spot is.0 is.2 in (m.0, (is.0, is.1, m.1), m.2)
 
-        value_text : (p : List ℕ) (read : Result (List ℕ) ValueFault) → PutsValueText c (write_of id usage selector request) t p read a → Makes (λ b. PutsValueText c (write_of id usage selector other) t p read b)
+        value_text : (p : List ℕ) (read : Result (List ℕ) ValueFault) → PutsValueText c (node_write id usage selector request) t p read a → Makes (λ b. PutsValueText c (node_write id usage selector other) t p read b)
         value_text p (Err fault) is = never _ is
         value_text p (Ok value) is = let m = planned is.0 is.2 in (m.0, (is.0, is.1, m.1), m.2)
 
-        at_spot : (spot : Spot) → PutsAt c (write_of id usage selector request) t spot a → Makes (λ b. PutsAt c (write_of id usage selector other) t spot b)
+        at_spot : (spot : Spot) → PutsAtEditTarget c (node_write id usage selector request) t spot a → Makes (λ b. PutsAtEditTarget c (node_write id usage selector other) t spot b)
         at_spot (Over p) is = element (Over p) is
         at_spot (Under q) is = element (Under q) is
         at_spot Beside is = element Beside is
         at_spot (Value p) is = let m = value_text p is.0 is.2 in (m.0, (is.0, is.1, m.1), m.2)
 
-        fragment : (spot : Spot) → PutsFragment c (write_of id usage selector request) t spot a → Makes (λ b. PutsFragment c (write_of id usage selector other) t spot b)
+        fragment : (spot : Spot) → PutsFragment c (node_write id usage selector request) t spot a → Makes (λ b. PutsFragment c (node_write id usage selector other) t spot b)
         fragment spot =
-            when (has_type (node_media selector.end) request.fields) (PutsAt c (write_of id usage selector request) t spot a) (λ b. PutsAt c (write_of id usage selector other) t spot b)
-            (plain 415 request.closes) (plain 415 closes) (at_spot spot)
+            when (has_media_type (node_media_type selector.end) request.fields) (PutsAtEditTarget c (node_write id usage selector request) t spot a) (λ b. PutsAtEditTarget c (node_write id usage selector other) t spot b)
+            (plain_reply 415 request.closes) (plain_reply 415 closes) (at_spot spot)
 
-        from_spot : (root : List ℕ) (tag : ℕ) (spot : Result Spot NoParent) → PutsFrom (server_of root c) (write_of id usage selector request) (t, tag) spot a → Makes (λ b. PutsFrom (server_of root c) (write_of id usage selector other) (t, tag) spot b)
+        from_spot : (root : List ℕ) (tag : ℕ) (spot : Result Spot NoParent) → PutsByEditTarget (server_state root c) (node_write id usage selector request) (t, tag) spot a → Makes (λ b. PutsByEditTarget (server_state root c) (node_write id usage selector other) (t, tag) spot b)
         from_spot root tag (Err none) is = never _ is
         from_spot root tag (Ok spot) is =
-            behind (Some tag) (is_there t selector) (PutsFragment c (write_of id usage selector request) t spot a) (λ b. PutsFragment c (write_of id usage selector other) t spot b) (fragment spot) is
+            behind (Some tag) (node_exists t selector) (PutsFragment c (node_write id usage selector request) t spot a) (λ b. PutsFragment c (node_write id usage selector other) t spot b) (fragment spot) is
 
-      node_put : (root : List ℕ) (usage : Usage) (selector : Selector) (version : Option (Tree × ℕ)) → PutsNodeIn (server_of root c) (write_of id usage selector request) version a → Makes (λ b. PutsNodeIn (server_of root c) (write_of id usage selector other) version b)
+      node_put : (root : List ℕ) (usage : Usage) (selector : Selector) (version : Option (Tree × ℕ)) → PutsNodeIfStored (server_state root c) (node_write id usage selector request) version a → Makes (λ b. PutsNodeIfStored (server_state root c) (node_write id usage selector other) version b)
       node_put root usage selector None is = never _ is
       node_put root usage selector (Some (t, tag)) is = let m = from_spot usage selector t root tag is.0 is.2 in (m.0, (is.0, is.1, m.1), m.2)
 
       -- ---- DELETE
 
-      document_deleted : (version : Option (Tree × ℕ)) → DeletesDocumentIn c id version request a → Makes (λ b. DeletesDocumentIn c id version other b)
+      document_deleted : (version : Option (Tree × ℕ)) → DeletesDocumentIfStored c id version request a → Makes (λ b. DeletesDocumentIfStored c id version other b)
       document_deleted None is = never _ is
       document_deleted (Some (t, tag)) is =
-          behind (Some tag) true (a ≡ change_answer c id RemoveDocument request.closes (deleted_reply request.closes)) (λ b. b ≡ change_answer c id RemoveDocument closes (deleted_reply closes))
-          (by_change c id (deleted_reply request.closes) (deleted_reply closes) RemoveDocument) is
+          behind (Some tag) true (a ≡ change_answer c id RemoveDocument request.closes (delete_reply request.closes)) (λ b. b ≡ change_answer c id RemoveDocument closes (delete_reply closes))
+          (by_change c id (delete_reply request.closes) (delete_reply closes) RemoveDocument) is
 
-      cut : (usage : Usage) (selector : Selector) (t : Tree) → CutsNode c (write_of id usage selector request) t a → Makes (λ b. CutsNode c (write_of id usage selector other) t b)
-      cut usage selector t is = let m = by_plan c id (cut_reply request.closes) (cut_reply closes) is.0 is.2 in (m.0, (is.0, is.1, m.1), m.2)
+      cut : (usage : Usage) (selector : Selector) (t : Tree) → RemovesNode c (node_write id usage selector request) t a → Makes (λ b. RemovesNode c (node_write id usage selector other) t b)
+      cut usage selector t is = let m = by_plan c id (node_delete_reply request.closes) (node_delete_reply closes) is.0 is.2 in (m.0, (is.0, is.1, m.1), m.2)
 
-      node_deleted : (usage : Usage) (selector : Selector) (version : Option (Tree × ℕ)) → DeletesNodeIn c (write_of id usage selector request) version a → Makes (λ b. DeletesNodeIn c (write_of id usage selector other) version b)
+      node_deleted : (usage : Usage) (selector : Selector) (version : Option (Tree × ℕ)) → DeletesNodeIfStored c (node_write id usage selector request) version a → Makes (λ b. DeletesNodeIfStored c (node_write id usage selector other) version b)
       node_deleted usage selector None is = never _ is
       node_deleted usage selector (Some (t, tag)) is =
-          when (is_there t selector) (AfterConditions request (representation (Some tag) true) false a (CutsNode c (write_of id usage selector request) t a)) (λ b. AfterConditions other (representation (Some tag) true) false b (CutsNode c (write_of id usage selector other) t b))
-          (plain 404 request.closes) (plain 404 closes)
-          (behind (Some tag) true (CutsNode c (write_of id usage selector request) t a) (λ b. CutsNode c (write_of id usage selector other) t b) (cut usage selector t)) is
+          when (node_exists t selector) (AppliesConditions request (representation (Some tag) true) false a (RemovesNode c (node_write id usage selector request) t a)) (λ b. AppliesConditions other (representation (Some tag) true) false b (RemovesNode c (node_write id usage selector other) t b))
+          (plain_reply 404 request.closes) (plain_reply 404 closes)
+          (behind (Some tag) true (RemovesNode c (node_write id usage selector request) t a) (λ b. RemovesNode c (node_write id usage selector other) t b) (cut usage selector t)) is
 
     -- ---- all in order
 
     module _ (root : List ℕ) (c : StoreContents) where
-      target_put : (target : Target) (usage : Usage) → Puts (server_of root c) target usage request a → Makes (λ b. Puts (server_of root c) target usage other b)
+      target_put : (target : Target) (usage : Usage) → PutsTarget (server_state root c) target usage request a → Makes (λ b. PutsTarget (server_state root c) target usage other b)
       target_put (Document id) usage is = document_put c id usage is
       target_put (Node id selector) usage is = node_put c id root usage selector (version_of c id) is
       target_put (Deep auid home) usage is = never _ is
@@ -170,7 +170,7 @@ module _ (made : Made) (request : Request) (closes : Bool) where
       target_put (ElementFeed tag id selector raw) usage is = absurd is
       target_put (Flat id service) usage is = absurd is
 
-      target_deleted : (target : Target) (usage : Usage) → Deletes c target usage request a → Makes (λ b. Deletes c target usage other b)
+      target_deleted : (target : Target) (usage : Usage) → DeletesTarget c target usage request a → Makes (λ b. DeletesTarget c target usage other b)
       target_deleted (Document id) usage is = document_deleted c id (version_of c id) is
       target_deleted (Node id selector) usage is = node_deleted c id usage selector (version_of c id) is
       target_deleted (Deep auid home) usage is = never _ is
@@ -178,27 +178,27 @@ module _ (made : Made) (request : Request) (closes : Bool) where
       target_deleted (ElementFeed tag id selector raw) usage is = absurd is
       target_deleted (Flat id service) usage is = absurd is
 
-      in_usage : (u : Option Usage) (P : Usage → Type 0) (Q : Usage → Answer → Type 0) → ((usage : Usage) → P usage → Makes (Q usage)) → IfStored u request a P → Makes (λ b. IfStored u other b (λ usage. Q usage b))
+      in_usage : (u : Option Usage) (P : Usage → Type 0) (Q : Usage → Answer → Type 0) → ((usage : Usage) → P usage → Makes (Q usage)) → WritesIfStored u request a P → Makes (λ b. WritesIfStored u other b (λ usage. Q usage b))
       in_usage None P Q so is = never _ is
       in_usage (Some usage) P Q so is = so usage is
 
-      by_method : (target : Target) (method : Method) → is_reading method ≡ false → ByMethod (server_of root c) target method request a → Makes (λ b. ByMethod (server_of root c) target method other b)
+      by_method : (target : Target) (method : Method) → is_reading method ≡ false → AnswersByMethod (server_state root c) target method request a → Makes (λ b. AnswersByMethod (server_state root c) target method other b)
       by_method target Get writes is = let no : ⊥ = cc in absurd no
       by_method target Head writes is = let no : ⊥ = cc in absurd no
-      by_method target Put writes is = in_usage (usage_of (auid_of target)) (λ usage. Puts (server_of root c) target usage request a) (λ usage b. Puts (server_of root c) target usage other b) (target_put target) is
-      by_method target Delete writes is = in_usage (usage_of (auid_of target)) (λ usage. Deletes c target usage request a) (λ usage b. Deletes c target usage other b) (target_deleted target) is
+      by_method target Put writes is = in_usage (usage_of (auid_of target)) (λ usage. PutsTarget (server_state root c) target usage request a) (λ usage b. PutsTarget (server_state root c) target usage other b) (target_put target) is
+      by_method target Delete writes is = in_usage (usage_of (auid_of target)) (λ usage. DeletesTarget c target usage request a) (λ usage b. DeletesTarget c target usage other b) (target_deleted target) is
       by_method target Other writes is = absurd is
 
-      by_user : (target : Target) (method : Method) → is_reading method ≡ false → ByUser (server_of root c) target method request a → Makes (λ b. ByUser (server_of root c) target method other b)
+      by_user : (target : Target) (method : Method) → is_reading method ≡ false → AnswersByUser (server_state root c) target method request a → Makes (λ b. AnswersByUser (server_state root c) target method other b)
       by_user target method writes =
-          when (is_allowed (not (is_reading method)) (auid_of target) (home_of target) request.fields) (ByMethod (server_of root c) target method request a) (λ b. ByMethod (server_of root c) target method other b)
-          (plain 403 request.closes) (plain 403 closes) (by_method target method writes)
+          when (is_allowed (not (is_reading method)) (auid_of target) (home_of target) request.fields) (AnswersByMethod (server_state root c) target method request a) (λ b. AnswersByMethod (server_state root c) target method other b)
+          (plain_reply 403 request.closes) (plain_reply 403 closes) (by_method target method writes)
 
-      by_target : (target : Target) (method : Method) → is_reading method ≡ false → ByTarget (server_of root c) target method request a → Makes (λ b. ByTarget (server_of root c) target method other b)
+      by_target : (target : Target) (method : Method) → is_reading method ≡ false → AnswersByTarget (server_state root c) target method request a → Makes (λ b. AnswersByTarget (server_state root c) target method other b)
       by_target target method writes =
-          when (takes target method) (ByUser (server_of root c) target method request a) (λ b. ByUser (server_of root c) target method other b) _ _ (by_user target method writes)
+          when (allows_method target method) (AnswersByUser (server_state root c) target method request a) (λ b. AnswersByUser (server_state root c) target method other b) _ _ (by_user target method writes)
 
-      answered_so : (read : Result Target UriFault) → is_reading (method_of request.method) ≡ false → IsAnswered root c read request a → Makes (λ b. IsAnswered root c read other b)
+      answered_so : (read : Result Target UriFault) → is_reading (method_of request.method) ≡ false → IsAnswerByTarget root c read request a → Makes (λ b. IsAnswerByTarget root c read other b)
       answered_so (Err fault) writes is = never _ is
       answered_so (Ok target) writes is = by_target target (method_of request.method) writes is
 

@@ -8,48 +8,48 @@ use Rattle.reply_text.specs.ReplyHeads.{SentReply}
 use Rattle.request_checks.specs.Methods.{is_reading, method_of}
 use Rattle.request_checks.specs.declared.method.Method.{Method}
 use Rattle.request_checks.specs.declared.method.Method.TheVariants.{Get, Head, Put, Delete, Other}
-use Rattle.edit_journal.specs.Journals.{IsFirstOf, JournalState}
-use Rattle.edit_journal.specs.Logs.{LogState}
-use Rattle.edit_journal.specs.Records.{IsRecordable, record_of, recorded}
-use Rattle.edit_journal.specs.Texts.{IsRecordedRequest, text}
-use Rattle.edit_journal.proofs.WholeRecords.{is_told, text_one_more, text-append}
-use Rattle.store_core.specs.Contents.{StoreContents, stock_of}
+use Rattle.edit_journal.specs.Journals.{IsPrefixOf, JournalState}
+use Rattle.edit_journal.specs.JournalLogs.{LogState}
+use Rattle.edit_journal.specs.Records.{IsRecordable, record_of, recorded_request}
+use Rattle.edit_journal.specs.JournalTexts.{IsRecordedRequest, journal_text}
+use Rattle.edit_journal.proofs.WholeRecords.{is_told, text_one_more, journal_text-append}
+use Rattle.store_core.specs.Contents.{StoreContents, contents_of}
 use Rattle.store_core.specs.State.{State, first_state}
-use Rattle.xcap_machine.specs.Answers.{Answer, Made}
-use Rattle.xcap_machine.specs.Laws.{tells_change}
-use Rattle.xcap_machine.specs.Machine.{ValidStep, answer_as, made_from}
+use Rattle.xcap_machine.specs.Answers.{Answer, MadeChange}
+use Rattle.xcap_machine.specs.StepOutcomes.{reports_change}
+use Rattle.xcap_machine.specs.Machine.{ValidStep, answer_with_edit, change_from_edit}
 use Rattle.xcap_machine.specs.Requests.{IsAnswer}
 use Rattle.xcap_machine.proofs.Ways.{Way, changes, stays, way_of}
-use Rattle.edit_journal.specs.LoggedRequests.{Accepts}
-use Rattle.xcap_server.specs.LoggedServers.{Logs}
-use Rattle.xcap_server.specs.ReplayedRequests.{Redoing}
-use Rattle.xcap_machine.specs.Servers.{ServerState}
+use Rattle.edit_journal.specs.LoggedRequests.{AcceptsRequest}
+use Rattle.xcap_server.specs.LoggedServers.{LogsRequests}
+use Rattle.xcap_server.specs.ReplayedRequests.{AcceptsRequests}
+use Rattle.xcap_machine.specs.ServerStates.{ServerState}
 use Rattle.xcap_server.proofs.LoggedServers.{redoing_more}
 use Rattle.xcap_server.proofs.CloseLemmas.{makes_too}
 use Rattle.edit_journal.proofs.Broken.{first_of_first}
 
-tells_none : (method : Method) (status : ℕ) → tells_change method status ≡ true → is_reading method ≡ false
+tells_none : (method : Method) (status : ℕ) → reports_change method status ≡ true → is_reading method ≡ false
 tells_none Get status h = let no : ⊥ = cc in absurd no
 tells_none Head status h = let no : ⊥ = cc in absurd no
 tells_none Put status h = refl
 tells_none Delete status h = refl
 tells_none Other status h = refl
 
-changes_by : (method : Method) (closes : Bool) (c : StoreContents) (a : Answer) (made : Made) → a.made ≡ Some made → Way method closes c a → is_reading method ≡ false
-changes_by method closes c a made makes (stays reply tells same is) = let no : ◌≡◌ {A = Option Made} None (Some made) = sym (ap (λ (x : Answer). x.made) is) ∙ makes in absurd (let f : ⊥ = cc in f)
+changes_by : (method : Method) (closes : Bool) (c : StoreContents) (a : Answer) (made : MadeChange) → a.made ≡ Some made → Way method closes c a → is_reading method ≡ false
+changes_by method closes c a made makes (stays reply tells same is) = let no : ◌≡◌ {A = Option MadeChange} None (Some made) = sym (ap (λ (x : Answer). x.made) is) ∙ makes in absurd (let f : ⊥ = cc in f)
 changes_by method closes c a made makes (changes reply tells same id change note next asks did is) = tells_none method reply.status tells
 
 -- as its record has it, a request makes the same change
-recorded_step : (root : List ℕ) (m next : State) (request : Request) (reply : SentReply) (e : Edit) → ValidStep root m request reply next (Some e) → (reply' : SentReply) × ValidStep root m (recorded request) reply' next (Some e)
+recorded_step : (root : List ℕ) (m next : State) (request : Request) (reply : SentReply) (e : Edit) → ValidStep root m request reply next (Some e) → (reply' : SentReply) × ValidStep root m (recorded_request request) reply' next (Some e)
 recorded_step root m next request reply e step =
-    let answer = answer_as reply (Some e) in
-    let writes = changes_by (method_of request.method) request.closes (stock_of m) answer (made_from e) refl (way_of root (stock_of m) request answer step.1.answers) in
-    let other = makes_too (made_from e) request false answer refl root (stock_of m) writes step.1.answers in (
+    let answer = answer_with_edit reply (Some e) in
+    let writes = changes_by (method_of request.method) request.closes (contents_of m) answer (change_from_edit e) refl (way_of root (contents_of m) request answer step.1.answers) in
+    let other = makes_too (change_from_edit e) request false answer refl root (contents_of m) writes step.1.answers in (
       other.0.reply,
       (
         step.0,
         record {
-          answers = subst (λ (o : Option Made). IsAnswer root (stock_of m) (recorded request) (record { reply = other.0.reply; made = o })) other.2 other.1;
+          answers = subst (λ (o : Option MadeChange). IsAnswer root (contents_of m) (recorded_request request) (record { reply = other.0.reply; made = o })) other.2 other.1;
           goes_on = step.1.goes_on;
         },
         step.2,
@@ -59,19 +59,19 @@ recorded_step root m next request reply e step =
 abbrev Comes : List ℕ → Bool → List Request → List ℕ → Type 0
 Comes root is_torn requests bytes =
     (torn : List Request) × (last : State) × (length torn ≤ 1) × (is_torn ≡ false → torn ≡ []) × All IsRecordedRequest (requests ++ torn)
-    × Redoing root (first_state 1) (requests ++ torn) last × IsFirstOf bytes (text (requests ++ torn))
+    × AcceptsRequests root (first_state 1) (requests ++ torn) last × IsPrefixOf bytes (journal_text (requests ++ torn))
 
-comes_by : (root : List ℕ) (is_torn : Bool) (requests : List Request) (state : State) (rest : List ℕ) → All IsRecordedRequest requests → Redoing root (first_state 1) requests state
-    → MatchBool is_torn ((request : Request) × IsRecordable request × Accepts (ValidStep root) state request × IsFirstOf rest (record_of request)) (rest ≡ []) → Comes root is_torn requests (text requests ++ rest)
+comes_by : (root : List ℕ) (is_torn : Bool) (requests : List Request) (state : State) (rest : List ℕ) → All IsRecordedRequest requests → AcceptsRequests root (first_state 1) requests state
+    → MatchBool is_torn ((request : Request) × IsRecordable request × AcceptsRequest (ValidStep root) state request × IsPrefixOf rest (record_of request)) (rest ≡ []) → Comes root is_torn requests (journal_text requests ++ rest)
 comes_by root true requests state rest told way (request, can, accepted, (more, is)) =
     let step = recorded_step root state accepted.1 request accepted.0 accepted.2 accepted.3 in (
-      recorded request ∷ [],
+      recorded_request request ∷ [],
       accepted.1,
       omega arith,
       (λ no. cc),
-      All-append IsRecordedRequest requests (recorded request ∷ []) told (All-cons IsRecordedRequest (recorded request) [] (is_told request can) (All-nil IsRecordedRequest)),
-      redoing_more root requests (first_state 1) state accepted.1 (recorded request) step.0 accepted.2 way step.1,
-      (more, text_one_more requests request ∙ ap (λ l. text requests ++ l) is ∙ sym (append_assoc (text requests) rest more)),
+      All-append IsRecordedRequest requests (recorded_request request ∷ []) told (All-cons IsRecordedRequest (recorded_request request) [] (is_told request can) (All-nil IsRecordedRequest)),
+      redoing_more root requests (first_state 1) state accepted.1 (recorded_request request) step.0 accepted.2 way step.1,
+      (more, text_one_more requests request ∙ ap (λ l. journal_text requests ++ l) is ∙ sym (append_assoc (journal_text requests) rest more)),
     )
 comes_by root false requests state rest told way none = (
   [],
@@ -79,11 +79,11 @@ comes_by root false requests state rest told way none = (
   omega arith,
   (λ _. refl),
   subst (λ (l : List Request). All IsRecordedRequest l) (sym (append-nil requests)) told,
-  subst (λ (l : List Request). Redoing root (first_state 1) l state) (sym (append-nil requests)) way,
-  ([], text-append requests [] ∙ ap (λ l. text requests ++ l) (sym none) ∙ sym (append-nil (text requests ++ rest))),
+  subst (λ (l : List Request). AcceptsRequests root (first_state 1) l state) (sym (append-nil requests)) way,
+  ([], journal_text-append requests [] ∙ ap (λ l. journal_text requests ++ l) (sym none) ∙ sym (append-nil (journal_text requests ++ rest))),
 )
 
-pub comes_to_a_state : (server : ServerState) (log : LogState) (journal : JournalState) (requests : List Request) (bytes : List ℕ) → Logs server log journal requests → IsFirstOf bytes journal.held
+pub comes_to_a_state : (server : ServerState) (log : LogState) (journal : JournalState) (requests : List Request) (bytes : List ℕ) → LogsRequests server log journal requests → IsPrefixOf bytes journal.held
     → Comes server.root log.is_torn requests bytes
 comes_to_a_state server log journal requests bytes logs begins =
     let all = comes_by server.root log.is_torn requests logs.stands.state logs.holds.rest logs.holds.told logs.stands.redone logs.holds.behind in (
@@ -93,5 +93,5 @@ comes_to_a_state server log journal requests bytes logs begins =
       all.3,
       all.4,
       all.5,
-      first_of_first bytes journal.held (text (requests ++ all.0)) begins (subst (λ (l : List ℕ). IsFirstOf l (text (requests ++ all.0))) (sym logs.holds.split) all.6),
+      first_of_first bytes journal.held (journal_text (requests ++ all.0)) begins (subst (λ (l : List ℕ). IsPrefixOf l (journal_text (requests ++ all.0))) (sym logs.holds.split) all.6),
     )

@@ -4,19 +4,19 @@ use Rattle.std.specs.Prelude.{◌≡◌, ℕ, List, ◌++◌, Result, Ok, Err}
 use Rattle.http_wire.specs.declared.request.Request.{Request}
 use Rattle.edit_ops.specs.declared.edit.Edit.{Edit}
 use Rattle.edit_journal.specs.Journals.{JournalState}
-use Rattle.edit_journal.specs.Logs.{LogState}
+use Rattle.edit_journal.specs.JournalLogs.{LogState}
 use Rattle.http_serve.specs.declared.machine.MachineReply.{MachineReply}
-use Rattle.http_serve.specs.Ports.{ServeOutcome}
+use Rattle.http_serve.specs.ServedPorts.{ServeOutcome}
 use Rattle.http_serve.specs.ServingStates.{ServingState}
-use Rattle.edit_journal.specs.LoggedMachines.{Booked, HoldsLog, accepted}
-use Rattle.edit_journal.specs.LoggedRequests.{Accepts, Answers, JournaledState}
-use Rattle.edit_journal.specs.Ports.{ServesLogged}
+use Rattle.edit_journal.specs.LoggedMachines.{LoggedMachineState, HoldsLog, accepted_requests}
+use Rattle.edit_journal.specs.LoggedRequests.{AcceptsRequest, AnswersWithJournal, JournaledState}
+use Rattle.edit_journal.specs.LoggedPorts.{ServesLogged}
 use Rattle.store_core.specs.Contents.{Represents}
 use Rattle.store_core.specs.ValidStates.{IsValidState}
 use Rattle.store_core.specs.State.{State}
 use Rattle.xcap_machine.specs.Machine.{ValidStep}
-use Rattle.xcap_server.specs.ReplayedRequests.{Redoing, ResultsFrom}
-use Rattle.xcap_machine.specs.Servers.{ServerState}
+use Rattle.xcap_server.specs.ReplayedRequests.{AcceptsRequests, ResultsFromRequests}
+use Rattle.xcap_machine.specs.ServerStates.{ServerState}
 
 -- A request was answered as the machine of the root answers it from this state on, except for a
 -- request that couldn't be added to the log; and the server's contents represent the next state.
@@ -25,28 +25,30 @@ pub record AnswersLogged (m : State) (old new : JournaledState ServerState) (req
   pub next : State
   pub kept : IsValidState next
   pub stands : Represents new.machine.content next
-  pub answers : Answers (ValidStep old.machine.root)
+  pub answers : AnswersWithJournal (ValidStep old.machine.root)
       (record { machine = m; log = old.log; journal = old.journal }) request a.reply
       (record { machine = next; log = new.log; journal = new.journal }) a.edit
 
 -- The journal has the records of these requests, for which the server stands, as they led to its
 -- state.
-pub record Logs (server : ServerState) (log : LogState) (journal : JournalState)
+pub record LogsRequests (server : ServerState) (log : LogState) (journal : JournalState)
     (requests : List Request) : Type 0 where
-  pub stands : ResultsFrom server requests
-  pub holds : HoldsLog (Accepts (ValidStep server.root) stands.state) log requests journal.held
+  pub stands : ResultsFromRequests server requests
+  pub holds : HoldsLog (AcceptsRequest (ValidStep server.root) stands.state) log requests
+      journal.held
 
 -- the accepted requests, with this one where it made a change
-abbrev pub with_answer : {E : Type 0} → Result (MachineReply Edit) E → List Request → Request
+abbrev pub with_accepted_request : {E : Type 0} → Result (MachineReply Edit) E → List Request
+    → Request
     → List Request
-with_answer (Ok a) requests request = requests ++ accepted request a.edit
-with_answer (Err e) requests request = requests
+with_accepted_request (Ok a) requests request = requests ++ accepted_requests request a.edit
+with_accepted_request (Err e) requests request = requests
 
 -- The connections of a port were served as by the machine of the root that starts so: from its
 -- state on, and with the requests that it had accepted before, except for requests that couldn't be
 -- added to the log; and the server's contents represent the next state.
 pub record ServesPortLogged {W : Type 0} (Keeps : List Edit → W → W → Type 0)
-    (outcome : ServeOutcome) (start : Booked State)
+    (outcome : ServeOutcome) (start : LoggedMachineState State)
     (old new : ServingState (JournaledState ServerState) W) : Type 0 where
   pub next : State
   pub kept : IsValidState next
@@ -68,5 +70,5 @@ pub record ServesPortLogged {W : Type 0} (Keeps : List Edit → W → W → Type
         watchers = new.watchers;
       })
   pub redone : (origin : State)
-      → Redoing old.machine.machine.root origin start.requests start.machine
-      → Redoing old.machine.machine.root origin serves.accepted next
+      → AcceptsRequests old.machine.machine.root origin start.requests start.machine
+      → AcceptsRequests old.machine.machine.root origin serves.accepted next

@@ -7,28 +7,28 @@ use Rattle.edit_ops.specs.declared.edit.Edit.{Edit}
 use Rattle.store_core.specs.Contents.{Represents}
 use Rattle.store_core.specs.ValidStates.{IsValidState}
 use Rattle.store_core.specs.State.{State, first_state}
-use Rattle.xcap_machine.specs.Answers.{unchanged}
+use Rattle.xcap_machine.specs.Answers.{reply_only}
 use Rattle.xcap_machine.specs.Machine.{ValidStep}
 use Rattle.xcap_machine.specs.Requests.{IsAnswer}
-use Rattle.xcap_machine.specs.Servers.{ServerState}
+use Rattle.xcap_machine.specs.ServerStates.{ServerState}
 
 -- from one state to the other, the machine of this root makes a change at each of the requests in
 -- turn
-abbrev pub Redoing : List ℕ → State → List Request → State → Type 0
-Redoing root m [] n = n ≡ m
-Redoing root m (request ∷ requests) n =
+abbrev pub AcceptsRequests : List ℕ → State → List Request → State → Type 0
+AcceptsRequests root m [] n = n ≡ m
+AcceptsRequests root m (request ∷ requests) n =
     (reply : SentReply) × (mid : State) × (edit : Edit)
-    × ValidStep root m request reply mid (Some edit) × Redoing root mid requests n
+    × ValidStep root m request reply mid (Some edit) × AcceptsRequests root mid requests n
 
 -- The server's contents are the result of these requests, each of which makes a change, from the
 -- state on that has no documents and the next number 1.
-pub record ResultsFrom (server : ServerState) (requests : List Request) : Type 0 where
+pub record ResultsFromRequests (server : ServerState) (requests : List Request) : Type 0 where
   pub state : State
   pub kept : IsValidState state
-  pub redone : Redoing server.root (first_state 1) requests state
+  pub redone : AcceptsRequests server.root (first_state 1) requests state
   pub stands : Represents server.content state
 
 -- the request makes no change on the server's contents
-abbrev pub Refuses : ServerState → Request → Type 0
-Refuses server request =
-    (reply : SentReply) × IsAnswer server.root server.content request (unchanged reply)
+abbrev pub RefusesRequest : ServerState → Request → Type 0
+RefusesRequest server request =
+    (reply : SentReply) × IsAnswer server.root server.content request (reply_only reply)

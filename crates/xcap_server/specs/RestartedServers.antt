@@ -4,20 +4,21 @@ use Rattle.std.specs.Prelude.{◌≡◌, List}
 use Rattle.http_wire.specs.declared.request.Request.{Request}
 use Rattle.store_core.specs.Contents.{Represents}
 use Rattle.store_core.specs.State.{State, first_state}
-use Rattle.xcap_server.specs.ReplayedRequests.{Redoing}
-use Rattle.xcap_machine.specs.Servers.{ServerState}
+use Rattle.xcap_server.specs.ReplayedRequests.{AcceptsRequests}
+use Rattle.xcap_machine.specs.ServerStates.{ServerState}
 
 -- no request is refused
-abbrev pub RefusesNone : ServerState → Request → Type 0
-RefusesNone server request = ⊥
+abbrev pub RefusesNoRequest : ServerState → Request → Type 0
+RefusesNoRequest server request = ⊥
 
 -- The server has the contents that the machine of its root has after these requests: they
 -- represent the one state that the requests lead to, and the remaining requests lead from it to
 -- the last state.
-pub record RepresentsAgain (server : ServerState) (done left : List Request)
+pub record RepresentsRequests (server : ServerState) (done left : List Request)
     (last : State) : Type 0 where
   pub state : State
   pub stands : Represents server.content state
-  pub led : Redoing server.root (first_state 1) done state
-  pub only : (other : State) → Redoing server.root (first_state 1) done other → other ≡ state
-  pub goes_on : Redoing server.root state left last
+  pub led : AcceptsRequests server.root (first_state 1) done state
+  pub only : (other : State) → AcceptsRequests server.root (first_state 1) done other → other
+      ≡ state
+  pub goes_on : AcceptsRequests server.root state left last

@@ -1,16 +1,17 @@
 // Laws of what a server served.
 ghost use Rattle.std.specs.Prelude.{◌≡◌, ◌++◌, ℕ, List, Some};
 ghost use Rattle.store_core.specs.State.{State};
-ghost use Rattle.xcap_io.specs.StreamTraffic.{IsTruthful};
-ghost use Rattle.http_wire.specs.ServedConnections.{HaveBytes, Serves, ServesEach, counted};
-ghost use Rattle.http_wire.specs.ServedConnections.{counted_each};
-ghost use Rattle.http_serve.specs.Connections.{ServesStream};
+ghost use Rattle.xcap_io.specs.StreamTraffic.{HasNothingAfterEnd};
+ghost use Rattle.http_wire.specs.ServedConnections.{AreAllBytesOfEach, ServesConnection};
+ghost use Rattle.http_wire.specs.ServedConnections.{ServesEach, counted_traffic};
+ghost use Rattle.http_wire.specs.ServedConnections.{counted_traffics};
+ghost use Rattle.http_serve.specs.ServedStreams.{ServesStream};
 ghost use Rattle.http_serve.specs.FixedReplies.{fixed_reply};
-ghost use Rattle.http_serve.specs.Ports.{ServeOutcome, ServesPort};
+ghost use Rattle.http_serve.specs.ServedPorts.{ServeOutcome, ServesPort};
 ghost use Rattle.http_serve.specs.ServingStates.{ServingState};
 ghost use Rattle.http_wire.specs.declared.close_reason.CloseReason.{CloseReason};
 ghost use Rattle.xcap_machine.specs.Machine.{ValidStep};
-ghost use Rattle.http_serve.specs.ReplyBytes.{InBytes};
+ghost use Rattle.http_serve.specs.ReplyBytes.{StepsInBytes};
 
 use edit_ops::Edit;
 use watchers::Watchers;
@@ -22,18 +23,18 @@ use watchers::Watchers;
 pub fn all_bytes_count<W: Watchers<Edit>>()
     ensures one_stream_bytes { (root : List ℕ) (ended : CloseReason)
         (old new : ServingState State W) (bytes : List ℕ)
-        → old.stream.inward.left ≡ Some bytes → IsTruthful old.stream.inward
-        → (served : ServesStream (InBytes (ValidStep root)) W.keeps ended old new)
-        → Serves (InBytes (ValidStep root)) fixed_reply ended old.machine
-        (counted ended bytes served.passed) new.machine served.edits }
+        → old.stream.inward.left ≡ Some bytes → HasNothingAfterEnd old.stream.inward
+        → (served : ServesStream (StepsInBytes (ValidStep root)) W.keeps ended old new)
+        → ServesConnection (StepsInBytes (ValidStep root)) fixed_reply ended old.machine
+        (counted_traffic ended bytes served.passed) new.machine served.edits }
     ensures each_connection_bytes { (root : List ℕ) (outcome : ServeOutcome)
         (old new : ServingState State W) (all : List (List ℕ))
         → old.stream.port.to_come ≡ Some all
-        → (served : ServesPort (InBytes (ValidStep root)) W.keeps outcome old new)
+        → (served : ServesPort (StepsInBytes (ValidStep root)) W.keeps outcome old new)
         → (came : List (List ℕ)) × (rest : List (List ℕ)) × (all ≡ came ++ rest)
         × (new.stream.port.to_come ≡ Some rest)
-        × HaveBytes came served.connections
-        × ServesEach (InBytes (ValidStep root)) fixed_reply old.machine
-        (counted_each served.connections came served.serves.endings) served.serves.endings
+        × AreAllBytesOfEach came served.connections
+        × ServesEach (StepsInBytes (ValidStep root)) fixed_reply old.machine
+        (counted_traffics served.connections came served.serves.endings) served.serves.endings
         new.machine served.edits }
 {}

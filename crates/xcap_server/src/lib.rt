@@ -14,7 +14,7 @@ mod laws;
 mod logged_server;
 mod logged_service;
 mod replayer;
-mod requests;
+mod request_decisions;
 mod restart_laws;
 mod server;
 mod service;

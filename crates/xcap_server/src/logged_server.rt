@@ -4,16 +4,16 @@ ghost use Rattle.http_wire.specs.declared.request.Request.{Request as TheRequest
 ghost use Rattle.xml_names.specs.Limits.{u64_max};
 ghost use Rattle.edit_journal.specs.Journals.{IsJournalProgress};
 ghost use Rattle.edit_journal.specs.declared.limits.TheConstants.{MAX_RECORD_BYTES};
-ghost use Rattle.edit_journal.specs.Logs.{Fits};
+ghost use Rattle.edit_journal.specs.JournalLogs.{LogFitsJournal};
 ghost use Rattle.edit_journal.specs.LoggedMachines.{HoldsLog};
-ghost use Rattle.edit_journal.specs.LoggedRequests.{Accepts, IsLoggable};
-ghost use Rattle.edit_journal.specs.Ports.{HasRoom};
+ghost use Rattle.edit_journal.specs.LoggedRequests.{AcceptsRequest, IsLoggable};
+ghost use Rattle.edit_journal.specs.LoggedPorts.{HasRoomForRecords};
 ghost use Rattle.store_core.specs.Contents.{Represents};
 ghost use Rattle.store_core.specs.ValidStates.{IsValidState};
 ghost use Rattle.store_core.specs.State.{State};
 ghost use Rattle.xcap_machine.specs.Machine.{ValidStep};
-ghost use Rattle.xcap_server.specs.LoggedServers.{AnswersLogged, Logs, ServesPortLogged};
-ghost use Rattle.xcap_server.specs.LoggedServers.{with_answer};
+ghost use Rattle.xcap_server.specs.LoggedServers.{AnswersLogged, LogsRequests, ServesPortLogged};
+ghost use Rattle.xcap_server.specs.LoggedServers.{with_accepted_request};
 
 use crate::server::Server;
 use edit_journal::{Journal, JournalLog, LoggedMachine, serve_streams_logged};
@@ -39,7 +39,7 @@ pub fn answer_logged<J: Journal>(
     request: &Request,
 ) -> Result<MachineReply<Edit>, AllocError>
     requires loggable { IsLoggable request.now }
-    requires fits { Fits log.old (J.state journal.old) }
+    requires fits { LogFitsJournal log.old (J.state journal.old) }
     requires room_left { log.old.len ≤ u64_max - MAX_RECORD_BYTES }
     ensures machine_reply { IfOk result
         (λ answered. (m : State) → IsValidState m → Represents server.old.content m
@@ -48,14 +48,15 @@ pub fn answer_logged<J: Journal>(
         (record { machine = server.new; log = log.new; journal = J.state journal.new })
         request.now answered) }
     ensures keeps_records { (requests : List TheRequest)
-        → Logs server.old log.old (J.state journal.old) requests
-        → Logs server.new log.new (J.state journal.new) (with_answer result requests request.now) }
+        → LogsRequests server.old log.old (J.state journal.old) requests
+        → LogsRequests server.new log.new (J.state journal.new)
+        (with_accepted_request result requests request.now) }
     ensures closes_as_asked { IfOk result (λ answered. answered.reply.closes ≡ request.now.closes) }
     ensures same_root { server.new.root ≡ server.old.root }
     ensures err_unchanged { OnErr result
         ((server.new.content ≡ server.old.content) × (log.new ≡ log.old)
         × (journal.new ≡ journal.old)) }
-    ensures still_fits { Fits log.new (J.state journal.new) }
+    ensures still_fits { LogFitsJournal log.new (J.state journal.new) }
     ensures goes_on { IsJournalProgress (J.state journal.old) (J.state journal.new) }
 {
     server.service.answer_logged(log, journal, request)
@@ -72,11 +73,11 @@ pub fn serve_port_logged<J: Journal, P: Port, W: Watchers<Edit>>(
     count: u64,
     watchers: &mut W,
 ) -> ServeSummary
-    requires fits { Fits log.old (J.state journal.old) }
-    requires room_left { HasRoom log.old (count * 1000) }
+    requires fits { LogFitsJournal log.old (J.state journal.old) }
+    requires room_left { HasRoomForRecords log.old (count * 1000) }
     ensures machine_session { (m : State) (requests : List TheRequest) → IsValidState m
         → Represents server.old.content m
-        → HoldsLog (Accepts (ValidStep server.old.root) m) log.old requests
+        → HoldsLog (AcceptsRequest (ValidStep server.old.root) m) log.old requests
         (J.state journal.old).held
         → ServesPortLogged W.keeps (record { most = count; served = result })
         (record { machine = m; requests = requests; failures = 0 })
@@ -90,7 +91,7 @@ pub fn serve_port_logged<J: Journal, P: Port, W: Watchers<Edit>>(
           stream = P.state port.new;
           watchers = watchers.new;
         }) }
-    ensures still_fits { Fits log.new (J.state journal.new) }
+    ensures still_fits { LogFitsJournal log.new (J.state journal.new) }
     ensures goes_on { IsJournalProgress (J.state journal.old) (J.state journal.new) }
 {
     serve_streams_logged(

@@ -1,13 +1,13 @@
 // The service as a logged machine: it adds accepted requests to a log before it makes their
 // changes.
 ghost use Rattle.std.specs.Prelude.{◌≡◌, None, Err, is_some};
-ghost use Rattle.reply_text.specs.ReplyHeads.{plain};
-ghost use Rattle.store_core.specs.StoreViews.{Stored};
+ghost use Rattle.reply_text.specs.ReplyHeads.{plain_reply};
+ghost use Rattle.store_core.specs.StoreViews.{StoreView};
 ghost use Rattle.xcap_put.specs.declared.decision.Decision.{Decision as TheDecision};
 ghost use Rattle.xcap_put.specs.Decisions.{IsReadyFor, answer_of};
-ghost use Rattle.xcap_server.specs.inner.Servers.{CarriesOut};
+ghost use Rattle.xcap_server.specs.inner.ServerSteps.{CarriesOutDecision};
 
-use crate::requests::decide;
+use crate::request_decisions::decide;
 use crate::service::{Service, commit};
 use edit_journal::{AppendFault, Journal, JournalLog, LoggedMachine};
 use edit_ops::Edit;
@@ -19,7 +19,7 @@ use store_core::Store;
 use xcap_put::Decision;
 
 // Whether a decision makes a change.
-fn changes(decision: &Decision) -> bool
+fn has_change(decision: &Decision) -> bool
     ensures exact { result ≡ is_some (answer_of decision.now).made }
 {
     match decision {
@@ -30,7 +30,7 @@ fn changes(decision: &Decision) -> bool
 
 // The answer to a request whose record couldn't be added.
 fn append_failure_reply(request: &Request) -> MachineReply<Edit>
-    ensures status_500 { result.reply ≡ plain 500 request.now.closes }
+    ensures status_500 { result.reply ≡ plain_reply 500 request.now.closes }
     ensures no_change { result.edit ≡ None }
 {
     MachineReply {
@@ -44,8 +44,9 @@ fn answer_without_change(
     fault: AppendFault,
     request: &Request,
 ) -> Result<MachineReply<Edit>, AllocError>
-    ensures makes_nothing { (s : Stored) (d : TheDecision)
-        → CarriesOut s (record { request = request.now; decision = d }) (Err fault) result s }
+    ensures makes_nothing { (s : StoreView) (d : TheDecision)
+        → CarriesOutDecision s (record { request = request.now; decision = d }) (Err fault) result
+        s }
 {
     match fault {
         AppendFault::Failed => Ok(append_failure_reply(request)),
@@ -61,7 +62,7 @@ fn carry_out(
     request: &Request,
 ) -> Result<MachineReply<Edit>, AllocError>
     requires ready { IsReadyFor store.old decision }
-    ensures carries_out { CarriesOut store.old
+    ensures carries_out { CarriesOutDecision store.old
         (record { request = request.now; decision = decision })
         entered result store.new }
 {
@@ -76,7 +77,7 @@ fn carry_out(
 }
 
 impl LoggedMachine for Service {
-    ghost use Rattle.xcap_server.specs.inner.Servers.{AnswersRequest};
+    ghost use Rattle.xcap_server.specs.inner.ServerSteps.{AnswersRequest};
 
     type Edit = Edit;
 
@@ -89,7 +90,7 @@ impl LoggedMachine for Service {
         request: &Request,
     ) -> Result<MachineReply<Edit>, AllocError> {
         let decision = decide(self.alloc, &self.root, &mut self.store, request)?;
-        if !changes(&decision) {
+        if !has_change(&decision) {
             return Ok(commit(&mut self.store, decision));
         }
         let entered = log.append(self.alloc, journal, request);

@@ -5,11 +5,11 @@ use http_wire::Request;
 use std::alloc::AllocError;
 
 impl Replayer for Server {
-    ghost use Rattle.xcap_server.specs.ReplayedRequests.{Refuses, ResultsFrom};
+    ghost use Rattle.xcap_server.specs.ReplayedRequests.{RefusesRequest, ResultsFromRequests};
 
-    ghost stands = { ResultsFrom };
+    ghost stands = { ResultsFromRequests };
 
-    ghost refuses = { Refuses };
+    ghost refuses = { RefusesRequest };
 
     ghost about = { λ s. s.root };
 

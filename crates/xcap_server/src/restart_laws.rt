@@ -1,18 +1,19 @@
 //! Laws of servers that restart, each the contract of a function that does nothing.
 ghost use Rattle.std.specs.Prelude.{◌≡◌, ℕ, ◌≤◌, ◌++◌, List, [], Result, false, length, take, All};
 ghost use Rattle.http_wire.specs.declared.request.Request.{Request};
-ghost use Rattle.edit_journal.specs.Journals.{IsFirstOf, JournalState};
-ghost use Rattle.edit_journal.specs.Logs.{LogState};
+ghost use Rattle.edit_journal.specs.Journals.{IsPrefixOf, JournalState};
+ghost use Rattle.edit_journal.specs.JournalLogs.{LogState};
 ghost use Rattle.edit_journal.specs.declared.limits.TheConstants.{MAX_JOURNAL_BYTES};
-ghost use Rattle.edit_journal.specs.Restarts.{RestartState, Restarts};
-ghost use Rattle.edit_journal.specs.Texts.{IsRecordedRequest, text};
+ghost use Rattle.edit_journal.specs.Restarts.{RestartState, RestartsReplayer};
+ghost use Rattle.edit_journal.specs.JournalTexts.{IsRecordedRequest, journal_text};
 ghost use Rattle.edit_journal.specs.declared.journal_restart.RestartFault.{RestartFault};
-ghost use Rattle.edit_journal.specs.PrefixRestarts.{EndsAfter};
+ghost use Rattle.edit_journal.specs.PrefixRestarts.{RestartEndsAfter};
 ghost use Rattle.store_core.specs.State.{State, first_state};
-ghost use Rattle.xcap_server.specs.LoggedServers.{Logs};
-ghost use Rattle.xcap_server.specs.ReplayedRequests.{Redoing, Refuses, ResultsFrom};
-ghost use Rattle.xcap_machine.specs.Servers.{ServerState};
-ghost use Rattle.xcap_server.specs.RestartedServers.{RefusesNone, RepresentsAgain};
+ghost use Rattle.xcap_server.specs.LoggedServers.{LogsRequests};
+ghost use Rattle.xcap_server.specs.ReplayedRequests.{AcceptsRequests, RefusesRequest};
+ghost use Rattle.xcap_server.specs.ReplayedRequests.{ResultsFromRequests};
+ghost use Rattle.xcap_machine.specs.ServerStates.{ServerState};
+ghost use Rattle.xcap_server.specs.RestartedServers.{RefusesNoRequest, RepresentsRequests};
 
 /// A law: where the machine of a root makes a change at each of these requests, one after the
 /// other, a server of this root without documents that restarts from some first bytes of their
@@ -23,12 +24,12 @@ pub fn servers_come_back_from_first_bytes()
     ensures restarts_there { (all : List Request) (last : State)
         (old new : RestartState ServerState)
         (result : Result LogState RestartFault)
-        → All IsRecordedRequest all → Redoing old.replayer.root (first_state 1) all last
-        → ResultsFrom old.replayer [] → new.replayer.root ≡ old.replayer.root
-        → (restarts : Restarts ResultsFrom Refuses old new result)
-        → IsFirstOf (take MAX_JOURNAL_BYTES restarts.bytes) (text all)
-        → (left : List Request) × RepresentsAgain new.replayer restarts.requests left last
-        × EndsAfter RefusesNone
+        → All IsRecordedRequest all → AcceptsRequests old.replayer.root (first_state 1) all last
+        → ResultsFromRequests old.replayer [] → new.replayer.root ≡ old.replayer.root
+        → (restarts : RestartsReplayer ResultsFromRequests RefusesRequest old new result)
+        → IsPrefixOf (take MAX_JOURNAL_BYTES restarts.bytes) (journal_text all)
+        → (left : List Request) × RepresentsRequests new.replayer restarts.requests left last
+        × RestartEndsAfter RefusesNoRequest
         (record {
           all = all;
           bytes = take MAX_JOURNAL_BYTES restarts.bytes;
@@ -46,9 +47,9 @@ pub fn servers_come_back_from_first_bytes()
 pub fn journals_of_servers_come_to_a_state()
     ensures reaches_state { (server : ServerState) (log : LogState) (journal : JournalState)
         (requests : List Request) (bytes : List ℕ)
-        → Logs server log journal requests → IsFirstOf bytes journal.held
+        → LogsRequests server log journal requests → IsPrefixOf bytes journal.held
         → (torn : List Request) × (last : State) × (length torn ≤ 1)
         × (log.is_torn ≡ false → torn ≡ []) × All IsRecordedRequest (requests ++ torn)
-        × Redoing server.root (first_state 1) (requests ++ torn) last
-        × IsFirstOf bytes (text (requests ++ torn)) }
+        × AcceptsRequests server.root (first_state 1) (requests ++ torn) last
+        × IsPrefixOf bytes (journal_text (requests ++ torn)) }
 {}

@@ -1,16 +1,17 @@
 //! The server: the documents under a root, which connections read and change.
 ghost use Rattle.std.specs.Prelude.{◌≡◌, ◌≤◌, [], None, IsOk, IfOk, OnErr};
-ghost use Rattle.xcap_uri.specs.Targets.{under_root};
+ghost use Rattle.xcap_uri.specs.Targets.{rest_under_root};
 ghost use Rattle.store_core.specs.State.{State};
 ghost use Rattle.store_core.specs.Contents.{Represents};
 ghost use Rattle.store_core.specs.ValidStates.{IsValidState};
-ghost use Rattle.xcap_machine.specs.Effects.{DeletedIsGone, KeyAddressesStay, PutExists};
-ghost use Rattle.xcap_machine.specs.Effects.{SecondPutLeavesTrees};
+ghost use Rattle.xcap_machine.specs.WriteEffects.{DeleteTargetIsGone, EditKeepsKeyAddresses};
+ghost use Rattle.xcap_machine.specs.WriteEffects.{PutTargetExists};
+ghost use Rattle.xcap_machine.specs.WriteEffects.{RepeatedPutPreservesTrees};
 ghost use Rattle.xcap_machine.specs.Machine.{ValidStep};
-ghost use Rattle.xcap_machine.specs.SubscriberVersions.{SubscribersHold};
-ghost use Rattle.http_serve.specs.Connections.{ServesStream};
-ghost use Rattle.http_serve.specs.Ports.{ServesPort};
-ghost use Rattle.http_serve.specs.ReplyBytes.{InBytes};
+ghost use Rattle.xcap_machine.specs.SubscriberVersions.{UpdatesAllSubscribers};
+ghost use Rattle.http_serve.specs.ServedStreams.{ServesStream};
+ghost use Rattle.http_serve.specs.ServedPorts.{ServesPort};
+ghost use Rattle.http_serve.specs.ReplyBytes.{StepsInBytes};
 
 use crate::service::Service;
 use edit_ops::Edit;
@@ -34,9 +35,9 @@ pub struct Server {
 }
 
 impl Model for Server {
-    ghost use Rattle.xcap_machine.specs.Servers.{ServerState};
+    ghost use Rattle.xcap_machine.specs.ServerStates.{ServerState};
     ghost use Rattle.std.specs.Coded.{codes};
-    ghost use Rattle.xml_tree.specs.inner.Codes.{tree_code};
+    ghost use Rattle.xml_tree.specs.inner.TreeCodes.{tree_code};
     ghost use Rattle.doc_names.specs.contracts.doc_id.DocId as d;
     ghost use Rattle.edit_ops.specs.contracts.change.Change as c;
 
@@ -96,19 +97,20 @@ pub fn answer(server: &mut Server, request: &Request) -> Result<MachineReply<Edi
         → (next : State) × ValidStep server.old.root m request.now answered.reply next answered.edit
         × Represents server.new.content next) }
     ensures put_is_there { IfOk result (λ answered.
-        PutExists server.old.root server.old.content request.now answered.edit
+        PutTargetExists server.old.root server.old.content request.now answered.edit
         server.new.content) }
     ensures deleted_is_gone { IfOk result (λ answered.
-        DeletedIsGone server.old.root request.now answered.edit server.new.content) }
+        DeleteTargetIsGone server.old.root request.now answered.edit server.new.content) }
     ensures second_put_unchanged { IfOk result (λ answered.
-        SecondPutLeavesTrees server.old.root request.now answered.edit server.new.content) }
+        RepeatedPutPreservesTrees server.old.root request.now answered.edit server.new.content) }
     ensures key_addresses_stay { IfOk result (λ answered.
-        KeyAddressesStay server.old.content answered.edit server.new.content) }
+        EditKeepsKeyAddresses server.old.content answered.edit server.new.content) }
     ensures subscribers_hold_it { IfOk result (λ answered. (m : State) → IsValidState m
         → Represents server.old.content m
-        → SubscribersHold server.old.root m request.now answered.reply) }
+        → UpdatesAllSubscribers server.old.root m request.now answered.reply) }
     ensures closes_as_asked { IfOk result (λ answered. answered.reply.closes ≡ request.now.closes) }
-    ensures outside_is_ok { under_root server.old.root request.now.target ≡ None → IsOk result }
+    ensures outside_is_ok { rest_under_root server.old.root request.now.target ≡ None
+        → IsOk result }
     ensures same_root { server.new.root ≡ server.old.root }
     ensures err_unchanged { OnErr result (server.new.content ≡ server.old.content) }
 {
@@ -129,7 +131,7 @@ pub fn serve_connection<L: Source + Sink, W: Watchers<Edit>>(
 ) -> CloseReason
     ensures machine_session { (m : State) → IsValidState m → Represents server.old.content m
         → (next : State) × IsValidState next × Represents server.new.content next
-        × ServesStream (InBytes (ValidStep server.old.root)) W.keeps result
+        × ServesStream (StepsInBytes (ValidStep server.old.root)) W.keeps result
         (record { machine = m; stream = L.state line.old; watchers = watchers.old })
         (record { machine = next; stream = L.state line.new; watchers = watchers.new }) }
     ensures same_root { server.new.root ≡ server.old.root }
@@ -147,7 +149,7 @@ pub fn serve_port<P: Port, W: Watchers<Edit>>(
 ) -> ServeSummary
     ensures machine_session { (m : State) → IsValidState m → Represents server.old.content m
         → (next : State) × IsValidState next × Represents server.new.content next
-        × ServesPort (InBytes (ValidStep server.old.root)) W.keeps
+        × ServesPort (StepsInBytes (ValidStep server.old.root)) W.keeps
         (record { most = count; served = result })
         (record { machine = m; stream = P.state port.old; watchers = watchers.old })
         (record { machine = next; stream = P.state port.new; watchers = watchers.new }) }

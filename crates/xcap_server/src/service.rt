@@ -1,15 +1,15 @@
 // The documents under a root, as a machine that answers requests.
 ghost use Rattle.std.specs.Prelude.{◌≡◌, ◌≤◌, [], None, IsOk, IfOk, OnErr};
 ghost use Rattle.xcap_uri.specs.Roots.{IsRoot, authority_of, path_of};
-ghost use Rattle.xcap_uri.specs.Targets.{under_root};
+ghost use Rattle.xcap_uri.specs.Targets.{rest_under_root};
 ghost use Rattle.store_core.specs.Contents.{Represents};
 ghost use Rattle.store_core.specs.ValidStates.{IsValidState};
 ghost use Rattle.store_core.specs.State.{State};
-ghost use Rattle.xcap_machine.specs.Machine.{answer_as, content_after_answer};
+ghost use Rattle.xcap_machine.specs.Machine.{answer_with_edit, content_after_answer};
 ghost use Rattle.xcap_put.specs.Decisions.{IsReadyFor, answer_of};
-ghost use Rattle.xcap_server.specs.inner.Servers.{AnswersRequest, IsAsBefore};
+ghost use Rattle.xcap_server.specs.inner.ServerSteps.{AnswersRequest, IsUnchanged};
 
-use crate::requests::decide;
+use crate::request_decisions::decide;
 use edit_ops::Edit;
 use http_serve::{Machine, MachineReply};
 use http_wire::Request;
@@ -28,9 +28,9 @@ pub(crate) struct Service {
 }
 
 impl Model for Service {
-    ghost use Rattle.xcap_machine.specs.Servers.{ServerState};
+    ghost use Rattle.xcap_machine.specs.ServerStates.{ServerState};
     ghost use Rattle.std.specs.Coded.{codes};
-    ghost use Rattle.xml_tree.specs.inner.Codes.{tree_code};
+    ghost use Rattle.xml_tree.specs.inner.TreeCodes.{tree_code};
     ghost use Rattle.doc_names.specs.contracts.doc_id.DocId as d;
     ghost use Rattle.edit_ops.specs.contracts.change.Change as c;
 
@@ -87,8 +87,9 @@ impl Service {
             (λ answered. AnswersRequest self.old request.now answered.reply self.new
             answered.edit) }
         ensures same_root { self.new.root ≡ self.old.root }
-        ensures outside_is_ok { under_root self.old.root request.now.target ≡ None → IsOk result }
-        ensures err_unchanged { OnErr result (IsAsBefore self.old self.new) }
+        ensures outside_is_ok { rest_under_root self.old.root request.now.target ≡ None
+            → IsOk result }
+        ensures err_unchanged { OnErr result (IsUnchanged self.old self.new) }
     {
         let decision = decide(self.alloc, &self.root, &mut self.store, request)?;
         Ok(commit(&mut self.store, decision))
@@ -98,7 +99,7 @@ impl Service {
 // Commits the change of a decision, if there is one. Does not allocate.
 pub(crate) fn commit(store: &mut Store, decision: Decision) -> MachineReply<Edit>
     requires ready { IsReadyFor store.old decision }
-    ensures decided_answer { answer_as result.reply result.edit ≡ answer_of decision }
+    ensures decided_answer { answer_with_edit result.reply result.edit ≡ answer_of decision }
     ensures makes_change { store.new.content
         ≡ content_after_answer store.old.content (answer_of decision).made }
 {
@@ -115,7 +116,7 @@ pub(crate) fn commit(store: &mut Store, decision: Decision) -> MachineReply<Edit
 }
 
 impl Machine for Service {
-    ghost use Rattle.xcap_server.specs.inner.Servers.{AnswersRequest};
+    ghost use Rattle.xcap_server.specs.inner.ServerSteps.{AnswersRequest};
 
     type Edit = Edit;
 

@@ -1,14 +1,15 @@
 // Properties of a target that the dispatch needs (RFC 4825, section 6).
 ghost use Rattle.std.specs.Prelude.{◌≡◌};
-ghost use Rattle.xcap_machine.specs.Requests.{auid_of, home_of, is_bindings, is_read_only, takes};
+ghost use Rattle.xcap_machine.specs.Requests.{auid_of, home_of, is_namespace_bindings};
+ghost use Rattle.xcap_machine.specs.Requests.{is_read_only, allows_method};
 
 use doc_names::{Auid, Home};
 use node_select::End;
 use request_checks::Method;
 use xcap_uri::Target;
 
-fn is_bindings(end: &End) -> bool
-    ensures exact { result ≡ is_bindings end.now }
+fn is_namespace_bindings(end: &End) -> bool
+    ensures exact { result ≡ is_namespace_bindings end.now }
 {
     match end {
         End::Element | End::Attribute { .. } => false,
@@ -22,14 +23,14 @@ pub(crate) fn is_read_only(target: &Target) -> bool
 {
     match target {
         Target::Document(_) | Target::Deep(_, _) => false,
-        Target::Node(_, selector) => is_bindings(&selector.end),
+        Target::Node(_, selector) => is_namespace_bindings(&selector.end),
         Target::Feed { .. } | Target::ElementFeed { .. } | Target::Flat { .. } => true,
     }
 }
 
 // Whether the target allows the method.
-pub(crate) fn takes(target: &Target, method: Method) -> bool
-    ensures exact { result ≡ takes target.now method }
+pub(crate) fn allows_method(target: &Target, method: Method) -> bool
+    ensures exact { result ≡ allows_method target.now method }
 {
     match method {
         Method::Get | Method::Head => true,

@@ -9,7 +9,7 @@ use Rattle.std.specs.Str.{IsAscii, IsUtf8, chars}
 use lib.Utf8.{encodes}
 use Rattle.doc_names.proofs.Words.{word_letters}
 use Rattle.xcap_uri.specs.Delimiters.{pieces}
-use Rattle.xcap_uri.specs.Roots.{slash, is_authority_char, is_segment_char, is_some_of, path_in, path_of, is_root_text as is_root}
+use Rattle.xcap_uri.specs.Roots.{slash, is_authority_char, is_segment_char, is_one_or_more, path_of_segments, path_of, is_root_text as is_root}
 use Rattle.xcap_uri.proofs.RootAnswers.{Parts, root_parts}
 
 -- the octets of a text of ASCII
@@ -24,7 +24,7 @@ authority_char c h = grind (arith, nat_tests)
 segment_char : (c : ℕ) → is_segment_char c ≡ true → is_ascii c ≡ true
 segment_char c h = grind (arith, nat_tests)
 
-some_letters : (p : ℕ → Bool) → ((c : ℕ) → p c ≡ true → is_ascii c ≡ true) → (piece : List ℕ) → is_some_of p piece ≡ true → list_all is_ascii piece ≡ true
+some_letters : (p : ℕ → Bool) → ((c : ℕ) → p c ≡ true → is_ascii c ≡ true) → (piece : List ℕ) → is_one_or_more p piece ≡ true → list_all is_ascii piece ≡ true
 some_letters p small [] h = refl
 some_letters p small (c ∷ cs) h = let both = and_parts (p c) (list_all p cs) h in and_from _ _ (small c both.0) (all_letters cs both.1)
   where
@@ -32,10 +32,10 @@ some_letters p small (c ∷ cs) h = let both = and_parts (p c) (list_all p cs) h
     all_letters [] h = refl
     all_letters (c ∷ cs) h = let both = and_parts (p c) (list_all p cs) h in and_from _ _ (small c both.0) (all_letters cs both.1)
 
-segments_letters : (ps : List (List ℕ)) → list_all (is_some_of is_segment_char) ps ≡ true → list_all (list_all is_ascii) ps ≡ true
+segments_letters : (ps : List (List ℕ)) → list_all (is_one_or_more is_segment_char) ps ≡ true → list_all (list_all is_ascii) ps ≡ true
 segments_letters [] h = refl
 segments_letters (p ∷ ps) h =
-    let both = and_parts (is_some_of is_segment_char p) (list_all (is_some_of is_segment_char) ps) h in
+    let both = and_parts (is_one_or_more is_segment_char p) (list_all (is_one_or_more is_segment_char) ps) h in
     and_from _ _ (some_letters is_segment_char segment_char p both.0) (segments_letters ps both.1)
 
 -- the scheme of a root
@@ -74,11 +74,11 @@ append_letters : (xs ys : List ℕ) → list_all is_ascii xs ≡ true → list_a
 append_letters [] ys h k = k
 append_letters (c ∷ cs) ys h k = let both = and_parts (is_ascii c) (list_all is_ascii cs) h in and_from _ _ both.0 (append_letters cs ys both.1 k)
 
-in_path_letters : (ps : List (List ℕ)) → list_all (list_all is_ascii) ps ≡ true → list_all is_ascii (path_in ps) ≡ true
+in_path_letters : (ps : List (List ℕ)) → list_all (list_all is_ascii) ps ≡ true → list_all is_ascii (path_of_segments ps) ≡ true
 in_path_letters [] h = refl
-in_path_letters (p ∷ ps) h = let both = and_parts (list_all is_ascii p) (list_all (list_all is_ascii) ps) h in append_letters p (path_in ps) both.0 (in_path_letters ps both.1)
+in_path_letters (p ∷ ps) h = let both = and_parts (list_all is_ascii p) (list_all (list_all is_ascii) ps) h in append_letters p (path_of_segments ps) both.0 (in_path_letters ps both.1)
 
 pub path_letters : (text : List ℕ) → is_root text ≡ true → IsAscii (path_of text)
 path_letters text is =
     let h = root_parts text is in
-    word_letters (path_of text) (ap (λ (ps : List (List ℕ)). list_all is_ascii (path_in (drop 3 ps))) h.parts_are ∙ in_path_letters h.segments (segments_letters h.segments h.segments_are))
+    word_letters (path_of text) (ap (λ (ps : List (List ℕ)). list_all is_ascii (path_of_segments (drop 3 ps))) h.parts_are ∙ in_path_letters h.segments (segments_letters h.segments h.segments_are))

@@ -4,7 +4,7 @@ use Rattle.std.proofs.lemmas.Bool.{leb-true, leb-false, le-leb, lt-leb}
 use Rattle.std.specs.List.{list_all}
 use Rattle.std.specs.Char.{is_ascii_digit as is_digit}
 use Rattle.xml_grammar.specs.Digits.{decimal_digits}
-use Rattle.xml_grammar.specs.Rules.{number_from}
+use Rattle.xml_grammar.specs.Rules.{number_of_digits}
 use Rattle.xcap_uri.specs.Numerals.{begins_with_digit, numeral_of}
 use Rattle.xcap_uri.specs.inner.Numerals.{number_after}
 
@@ -13,10 +13,10 @@ abbrev top : ℕ
 top = 18446744073709551615
 
 abbrev whole : ℕ → List ℕ → Option ℕ
-whole n cs = cond (list_all is_digit cs && nat_le (number_from decimal_digits n cs) top) (Some (number_from decimal_digits n cs)) None
+whole n cs = cond (list_all is_digit cs && nat_le (number_of_digits decimal_digits n cs) top) (Some (number_of_digits decimal_digits n cs)) None
 
 -- a number never falls as digits are added
-grows : (n : ℕ) (cs : List ℕ) → n ≤ number_from decimal_digits n cs
+grows : (n : ℕ) (cs : List ℕ) → n ≤ number_of_digits decimal_digits n cs
 grows n [] = omega arith
 grows n (c ∷ cs) = let k = grows (n * 10 + (c - 48)) cs in omega arith
 
@@ -31,7 +31,7 @@ with_digit n c cs false small d s more = rw d refl
 with_digit n c cs true true d s more = rw (d, s) (more (leb-true (n * 10 + (c - 48)) top s))
 with_digit n c cs true false d s more =
     let beyond = leb-false (n * 10 + (c - 48)) top s in
-    rw (d, s) (sym (too_great (list_all is_digit cs) (number_from decimal_digits (n * 10 + (c - 48)) cs) (omega (arith, beyond, grows (n * 10 + (c - 48)) cs))))
+    rw (d, s) (sym (too_great (list_all is_digit cs) (number_of_digits decimal_digits (n * 10 + (c - 48)) cs) (omega (arith, beyond, grows (n * 10 + (c - 48)) cs))))
 
 value_is : (n : ℕ) (cs : List ℕ) → n ≤ top → number_after n cs ≡ whole n cs
 value_is n [] small = rw (le-leb n top small) refl

@@ -1,9 +1,9 @@
 -- Steps that find a value or a fault, and the order of faults that they follow.
 use Rattle.std.proofs.Common.{◌≡◌, Result, Ok, Err, inl, inr, refl, sym, subst, ◌∙◌}
 use Rattle.xml_names.specs.declared.read_error.ReadError.TheVariants.{Fault, NoMemory}
-use Rattle.xml_names.specs.Memory.{Answered}
+use Rattle.xml_names.specs.ReadErrors.{ResultSatisfies}
 use Rattle.xcap_uri.specs.readers.Steps.{UriError, ◌>>=◌}
-use Rattle.xcap_uri.specs.Order.{FirstOrFault, Given}
+use Rattle.xcap_uri.specs.FaultOrder.{FirstOrFault, HoldsOrFault}
 use Rattle.xcap_uri.specs.declared.fault.UriFault.{UriFault}
 
 -- what is found is a result of which this holds, and not out of memory
@@ -12,7 +12,7 @@ Meets P (Ok value) = P (Ok value)
 Meets P (Err (Fault fault)) = P (Err fault)
 Meets P (Err NoMemory) = ⊥
 
-pub met : {A : Type 0} (P : Result A UriFault → Type 0) (r : Result A UriError) → Meets P r → Answered P r
+pub met : {A : Type 0} (P : Result A UriFault → Type 0) (r : Result A UriError) → Meets P r → ResultSatisfies P r
 unfolding Meets
 met P (Ok value) m = m
 met P (Err (Fault fault)) m = m
@@ -74,14 +74,14 @@ module _ {A B : Type 0} (Is : A → Type 0) (fault : UriFault) (Next : A → Res
   one_step r d h x y (inr p) (inr q) = p.1 ∙ sym q.1
 
 module _ {B : Type 0} (Holds : Type 0) (fault : UriFault) (Next : Result B UriFault → Type 0) where
-  pub given_next : Holds → (s : Result B UriError) → Meets Next s → Meets (Given Holds fault Next) s
-  given_next h s m = meets_so Next (Given Holds fault Next) (λ answer n. inl (h, n)) s m
+  pub given_next : Holds → (s : Result B UriError) → Meets Next s → Meets (HoldsOrFault Holds fault Next) s
+  given_next h s m = meets_so Next (HoldsOrFault Holds fault Next) (λ answer n. inl (h, n)) s m
 
-  pub given_fault : (Holds → ⊥) → (let s : Result B UriError = Err (Fault fault) in Meets (Given Holds fault Next) s)
+  pub given_fault : (Holds → ⊥) → (let s : Result B UriError = Err (Fault fault) in Meets (HoldsOrFault Holds fault Next) s)
   unfolding Meets
   given_fault none = inr (none, refl)
 
-  pub one_given : ((x y : Result B UriFault) → Next x → Next y → x ≡ y) → (x y : Result B UriFault) → Given Holds fault Next x → Given Holds fault Next y → x ≡ y
+  pub one_given : ((x y : Result B UriFault) → Next x → Next y → x ≡ y) → (x y : Result B UriFault) → HoldsOrFault Holds fault Next x → HoldsOrFault Holds fault Next y → x ≡ y
   one_given h x y (inl p) (inl q) = h x y p.1 q.1
   one_given h x y (inl p) (inr q) = absurd (q.0 p.0)
   one_given h x y (inr p) (inl q) = absurd (p.0 q.0)

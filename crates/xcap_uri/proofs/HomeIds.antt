@@ -1,11 +1,11 @@
 -- The printed id of a document with an empty name is its home's and a slash.
 use Rattle.std.proofs.Common.{◌≡◌, ℕ, List, [], ◌∷◌, ◌++◌, codes, refl, sym, ap, ◌∙◌, append_assoc, append-nil}
-use Rattle.doc_names.specs.Ids.{id_text}
+use Rattle.doc_names.specs.DocIds.{id_text}
 use Rattle.doc_names.specs.Usages.{auid_text}
 use Rattle.doc_names.specs.declared.doc_id.Auid.{Auid}
 use Rattle.doc_names.specs.declared.doc_id.Home.{Home}
 use Rattle.doc_names.specs.declared.doc_id.Home.TheVariants.{Global, User}
-use Rattle.doc_names.specs.Escapes.{escaped_part as part_text}
+use Rattle.doc_names.specs.PercentEscapes.{escape_part as part_text}
 use Rattle.xcap_uri.specs.Ancestors.{home_uri}
 
 -- the AUID and the home, without the slash after them

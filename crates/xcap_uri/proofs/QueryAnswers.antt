@@ -1,6 +1,6 @@
 -- Reading a query finds bindings, or reports `BadQuery`.
 use Rattle.std.proofs.Common.{◌≡◌, ℕ, zero, suc, ◌+◌, ◌-◌, Bool, true, false, cond, List, [], ◌∷◌, ◌&&◌, ◌==◌, codes, length, Option, None, Some, Result, Ok, Err, refl, subst, ◌↔◌}
-use Rattle.xml_grammar.specs.TextReading.{head_is, after_front}
+use Rattle.xml_grammar.specs.TextReading.{first_char_is, drop_while}
 use Rattle.xml_names.specs.Characters.{is_name_start, is_space}
 use Rattle.xml_names.specs.declared.names.Decl.{Decl}
 use Rattle.xml_names.specs.declared.read_error.ReadError.TheVariants.{Fault}
@@ -34,10 +34,10 @@ good : {A : Type 0} (x : A) → (let r : Result A UriError = Ok x in OnlyBad r)
 unfolding OnlyBad
 good x = tt
 
-with_char_bad : (c : ℕ) (read : Queries.Read (List ℕ)) → OnlyBad read → OnlyBad (Queries.with_char c read)
-with_char_bad c read p = bind_bad read (λ x. let r : Queries.Read (List ℕ) = Ok (c ∷ x.0, x.1) in r) p (λ x. good (c ∷ x.0, x.1))
+with_char_bad : (c : ℕ) (read : Queries.ReadResult (List ℕ)) → OnlyBad read → OnlyBad (Queries.with_char c read)
+with_char_bad c read p = bind_bad read (λ x. let r : Queries.ReadResult (List ℕ) = Ok (c ∷ x.0, x.1) in r) p (λ x. good (c ∷ x.0, x.1))
 
-uri_chars_bad : (n : ℕ) (text : List ℕ) → OnlyBad (Queries.uri_chars n text)
+uri_chars_bad : (n : ℕ) (text : List ℕ) → OnlyBad (Queries.parse_uri_chars n text)
 uri_chars_bad n [] = bad _
 uri_chars_bad n (c ∷ []) = if_bad (c == 41 && n == 0) _ _ (good _) (bad _)
 uri_chars_bad n (c ∷ d ∷ rest) =
@@ -46,36 +46,36 @@ uri_chars_bad n (c ∷ d ∷ rest) =
     (if_bad (c == 41) _ _ (if_bad (n == 0) _ _ (good _) (with_char_bad c _ (uri_chars_bad (n - 1) (d ∷ rest))))
     (with_char_bad c _ (uri_chars_bad n (d ∷ rest)))))
 
-some_uri_bad : (x : List ℕ × List ℕ) → OnlyBad (Queries.some_uri x)
+some_uri_bad : (x : List ℕ × List ℕ) → OnlyBad (Queries.non_empty_uri x)
 some_uri_bad ([], rest) = bad _
 some_uri_bad (c ∷ cs, rest) = good _
 
 uri_bad : (text : List ℕ) → OnlyBad (Queries.parsed_uri text)
-uri_bad text = bind_bad (Queries.uri_chars 0 text) Queries.some_uri (uri_chars_bad 0 text) some_uri_bad
+uri_bad text = bind_bad (Queries.parse_uri_chars 0 text) Queries.non_empty_uri (uri_chars_bad 0 text) some_uri_bad
 
-past_bad : (rest : Option (List ℕ)) → OnlyBad (Queries.past rest)
+past_bad : (rest : Option (List ℕ)) → OnlyBad (Queries.rest_or_fault rest)
 past_bad None = bad _
 past_bad (Some rest) = good rest
 
 equals_bad : (text : List ℕ) → OnlyBad (Queries.after_equals text)
-equals_bad text = bind_bad (Queries.past (rest_after_front (codes "=") (after_front is_space text))) (λ rest. Ok (after_front is_space rest)) (past_bad _) (λ rest. good _)
+equals_bad text = bind_bad (Queries.rest_or_fault (rest_after_front (codes "=") (drop_while is_space text))) (λ rest. Ok (drop_while is_space rest)) (past_bad _) (λ rest. good _)
 
 prefix_bad : (text : List ℕ) → OnlyBad (Queries.parsed_prefix text)
-prefix_bad text = if_bad (head_is is_name_start text) _ _ (good _) (bad _)
+prefix_bad text = if_bad (first_char_is is_name_start text) _ _ (good _) (bad _)
 
-unreserved_bad : (x : List ℕ × List ℕ) → OnlyBad (Queries.unreserved x)
+unreserved_bad : (x : List ℕ × List ℕ) → OnlyBad (Queries.reject_reserved x)
 unreserved_bad x = if_bad (Queries.is_reserved x.0) _ _ (bad _) (good x)
 
 free_prefix_bad : (text : List ℕ) → OnlyBad (Queries.parsed_free_prefix text)
-free_prefix_bad text = bind_bad (Queries.parsed_prefix text) Queries.unreserved (prefix_bad text) unreserved_bad
+free_prefix_bad text = bind_bad (Queries.parsed_prefix text) Queries.reject_reserved (prefix_bad text) unreserved_bad
 
-item_of : (List ℕ × List ℕ) → (List ℕ × List ℕ) → Queries.Read Decl
+item_of : (List ℕ × List ℕ) → (List ℕ × List ℕ) → Queries.ReadResult Decl
 item_of p u = Ok (record { prefix = p.0; uri = u.0 }, u.1)
 
 item_bad : (text : List ℕ) → OnlyBad (Queries.parsed_item text)
 unfolding item_of
 item_bad text =
-    bind_bad (Queries.past (rest_after_front (codes "xmlns(") text)) _ (past_bad _)
+    bind_bad (Queries.rest_or_fault (rest_after_front (codes "xmlns(") text)) _ (past_bad _)
     (λ inner. bind_bad (Queries.parsed_free_prefix inner) _ (free_prefix_bad inner)
     (λ p. bind_bad (Queries.after_equals p.1 >>= Queries.parsed_uri) (item_of p) (bind_bad (Queries.after_equals p.1) Queries.parsed_uri (equals_bad p.1) uri_bad)
     (λ u. good _)))
@@ -85,11 +85,11 @@ items_bad n [] = good _
 items_bad zero (c ∷ text) = bad _
 items_bad (suc n) (c ∷ text) =
     bind_bad (Queries.parsed_item (c ∷ text)) _ (item_bad (c ∷ text))
-    (λ x. bind_bad (Queries.parsed_items n (after_front is_blank x.1)) (λ items. Ok (x.0 ∷ items)) (items_bad n (after_front is_blank x.1)) (λ items. good _))
+    (λ x. bind_bad (Queries.parsed_items n (drop_while is_blank x.1)) (λ items. Ok (x.0 ∷ items)) (items_bad n (drop_while is_blank x.1)) (λ items. good _))
 
 optional_bad : (query : Option (List ℕ)) → OnlyBad (Queries.parsed_optional_bindings query)
 optional_bad None = good _
-optional_bad (Some text) = items_bad (length text) (after_front is_blank text)
+optional_bad (Some text) = items_bad (length text) (drop_while is_blank text)
 
 refused : (r : Result (List Decl) UriError) (e : UriError) → OnlyBad r → r ≡ Err e → e ≡ Fault BadQuery
 unfolding OnlyBad

@@ -4,14 +4,14 @@ use Rattle.std.specs.Cmp.Lexicographic.{bytes_decides}
 use Rattle.std.specs.Str.{bytes_eq, chars}
 use Rattle.std.specs.List.{join_with_byte as joined}
 use Rattle.percent_encoding.specs.Percent.{percent_decode}
-use Rattle.doc_names.specs.Ids.{separator}
+use Rattle.doc_names.specs.DocIds.{selector_separator}
 use Rattle.xml_names.specs.declared.read_error.ReadError.TheVariants.{Fault}
 use Rattle.xcap_uri.specs.Delimiters.{pieces}
-use Rattle.xcap_uri.specs.Escapes.{StandsFor, StandForOptional}
+use Rattle.xcap_uri.specs.Escapes.{DecodesTo, DecodesToOptional}
 use Rattle.xcap_uri.specs.readers.Steps.{UriError, ◌>>=◌}
 use Rattle.xcap_uri.specs.Roots.{slash}
-use Rattle.xcap_uri.specs.Targets.{AreSegments, IsPath}
-use Rattle.xcap_uri.specs.readers.Escapes.{parsed_text, parsed_optional_text, stands_for_text}
+use Rattle.xcap_uri.specs.Targets.{AreSegments, IsSplitPath}
+use Rattle.xcap_uri.specs.readers.Escapes.{parsed_text, parsed_optional_text, decodes_to_text}
 use Rattle.xcap_uri.specs.readers.Targets.{parsed_segments, parsed_path}
 use Rattle.xcap_uri.specs.declared.fault.UriFault.TheVariants.{BadEscape}
 use Rattle.xcap_uri.proofs.FaultOrder.{Decides}
@@ -21,7 +21,7 @@ use Rattle.xcap_uri.proofs.FaultOrder.{Decides}
 abbrev Text : Type 0
 Text = Result (List ℕ) UriError
 
-by_stands : (part : List ℕ) (b : Bool) → stands_for_text part ≡ b → let r : Text = if b then Ok (chars (percent_decode part)) else Err (Fault BadEscape) in Decides (StandsFor part) BadEscape r
+by_stands : (part : List ℕ) (b : Bool) → decodes_to_text part ≡ b → let r : Text = if b then Ok (chars (percent_decode part)) else Err (Fault BadEscape) in Decides (DecodesTo part) BadEscape r
 by_stands part true e = record {
   sound = λ text h. record { stands = e; decoded = let i : chars (percent_decode part) ≡ text = cc in sym i };
   complete = λ text s. ap (λ (z : List ℕ). let r : Text = Ok z in r) (sym s.decoded);
@@ -33,25 +33,25 @@ by_stands part false e = record {
   refused = λ x h. let i : Fault BadEscape ≡ x = cc in sym i;
 }
 
-pub text_decided : (part : List ℕ) → Decides (StandsFor part) BadEscape (parsed_text part)
-text_decided part = by_stands part (stands_for_text part) refl
+pub text_decided : (part : List ℕ) → Decides (DecodesTo part) BadEscape (parsed_text part)
+text_decided part = by_stands part (decodes_to_text part) refl
 
 -- a text that may be absent
 abbrev Optional : Type 0
 Optional = Result (Option (List ℕ)) UriError
 
-some_text : (part : List ℕ) (r : Text) → Decides (StandsFor part) BadEscape r → Decides (StandForOptional (Some part)) BadEscape (r >>= λ text. let s : Optional = Ok (Some text) in s)
+some_text : (part : List ℕ) (r : Text) → Decides (DecodesTo part) BadEscape r → Decides (DecodesToOptional (Some part)) BadEscape (r >>= λ text. let s : Optional = Ok (Some text) in s)
 some_text part (Ok text) d = record {
   sound = λ o h. sound o (let i : Some text ≡ o = cc in i);
   complete = complete;
   refused = λ x h. absurd cc;
 }
   where
-    sound : (o : Option (List ℕ)) → Some text ≡ o → StandForOptional (Some part) o
+    sound : (o : Option (List ℕ)) → Some text ≡ o → DecodesToOptional (Some part) o
     sound None i = absurd cc
     sound (Some t) i = d.sound t (let j : text ≡ t = cc in ap (λ (z : List ℕ). let s : Text = Ok z in s) j)
 
-    complete : (o : Option (List ℕ)) → StandForOptional (Some part) o → (let s : Optional = Ok (Some text) in s ≡ Ok o)
+    complete : (o : Option (List ℕ)) → DecodesToOptional (Some part) o → (let s : Optional = Ok (Some text) in s ≡ Ok o)
     complete None h = absurd h
     complete (Some t) h = let i : Ok text ≡ Ok t = d.complete t h in let j : text ≡ t = cc in ap (λ (z : List ℕ). let s : Optional = Ok (Some z) in s) j
 some_text part (Err e) d = record {
@@ -60,11 +60,11 @@ some_text part (Err e) d = record {
   refused = λ x h. let i : e ≡ x = cc in sym i ∙ d.refused e refl;
 }
   where
-    complete : (o : Option (List ℕ)) → StandForOptional (Some part) o → (let s : Optional = Err e in s ≡ Ok o)
+    complete : (o : Option (List ℕ)) → DecodesToOptional (Some part) o → (let s : Optional = Err e in s ≡ Ok o)
     complete None h = absurd h
     complete (Some t) h = let i = d.complete t h in absurd cc
 
-pub optional_decided : (part : Option (List ℕ)) → Decides (StandForOptional part) BadEscape (parsed_optional_text part)
+pub optional_decided : (part : Option (List ℕ)) → Decides (DecodesToOptional part) BadEscape (parsed_optional_text part)
 optional_decided None = record {
   sound = λ o h. let i : None ≡ o = cc in sym i;
   complete = λ o h. ap (λ (z : Option (List ℕ)). let s : Optional = Ok z in s) (sym h);
@@ -88,7 +88,7 @@ same_pair : (x : Path) (texts : List (List ℕ)) (selector : Option (List ℕ)) 
 same_pair x texts selector e f = ap (λ (z : List (List ℕ)). let s : Segments = Ok (z, x.1) in s) e ∙ ap (λ (z : Option (List ℕ)). let s : Segments = Ok (texts, z) in s) f
 
 -- the separator: the selector comes after it
-at_separator : (raw : List ℕ) (raws : List (List ℕ)) → StandsFor raw separator → (let s : Segments = Ok ([], Some (joined slash raws)) in Decides (Are (raw ∷ raws)) BadEscape s)
+at_separator : (raw : List ℕ) (raws : List (List ℕ)) → DecodesTo raw selector_separator → (let s : Segments = Ok ([], Some (joined slash raws)) in Decides (Are (raw ∷ raws)) BadEscape s)
 at_separator raw raws stands = record {
   sound = λ x h. subst (Are (raw ∷ raws)) (let i : ([], Some (joined slash raws)) ≡ x = cc in i) (stands, refl);
   complete = λ x h. complete x.0 x.1 h;
@@ -100,7 +100,7 @@ at_separator raw raws stands = record {
     complete (text ∷ texts) selector h = absurd (h.1 (h.0.decoded ∙ sym stands.decoded))
 
 -- another text: the segments after it follow
-at_text : (raw : List ℕ) (raws : List (List ℕ)) (text : List ℕ) → StandsFor raw text → text ≢ separator → (r : Segments) → Decides (Are raws) BadEscape r
+at_text : (raw : List ℕ) (raws : List (List ℕ)) (text : List ℕ) → DecodesTo raw text → text ≢ selector_separator → (r : Segments) → Decides (Are raws) BadEscape r
     → Decides (Are (raw ∷ raws)) BadEscape (r >>= λ x. let s : Segments = Ok (text ∷ x.0, x.1) in s)
 at_text raw raws text stands other (Ok x) d = record {
   sound = λ y h. subst (Are (raw ∷ raws)) (let i : (text ∷ x.0, x.1) ≡ y = cc in i) (stands, other, d.sound x refl);
@@ -126,7 +126,7 @@ at_text raw raws text stands other (Err e) d = record {
     complete (t ∷ texts) selector h = let i = d.complete (texts, selector) h.2 in absurd cc
 
 -- no text
-at_none : (raw : List ℕ) (raws : List (List ℕ)) (e : UriError) → e ≡ Fault BadEscape → ((text : List ℕ) → StandsFor raw text → ⊥) → (let s : Segments = Err e in Decides (Are (raw ∷ raws)) BadEscape s)
+at_none : (raw : List ℕ) (raws : List (List ℕ)) (e : UriError) → e ≡ Fault BadEscape → ((text : List ℕ) → DecodesTo raw text → ⊥) → (let s : Segments = Err e in Decides (Are (raw ∷ raws)) BadEscape s)
 at_none raw raws e same none = record {
   sound = λ y h. absurd cc;
   complete = λ y h. complete y.0 y.1 h;
@@ -134,17 +134,17 @@ at_none raw raws e same none = record {
 }
   where
     complete : (texts : List (List ℕ)) (selector : Option (List ℕ)) → AreSegments (raw ∷ raws) texts selector → (let s : Segments = Err e in s ≡ Ok (texts, selector))
-    complete [] selector h = absurd (none separator h.0)
+    complete [] selector h = absurd (none selector_separator h.0)
     complete (t ∷ texts) selector h = absurd (none t h.0)
 
-by_separator : (raw : List ℕ) (raws : List (List ℕ)) (text : List ℕ) (b : Bool) → bytes_eq text separator ≡ b → StandsFor raw text → Decides (Are raws) BadEscape (parsed_segments raws)
+by_separator : (raw : List ℕ) (raws : List (List ℕ)) (text : List ℕ) (b : Bool) → bytes_eq text selector_separator ≡ b → DecodesTo raw text → Decides (Are raws) BadEscape (parsed_segments raws)
     → let s : Segments = if b then Ok ([], Some (joined slash raws)) else (parsed_segments raws >>= λ x. Ok (text ∷ x.0, x.1)) in Decides (Are (raw ∷ raws)) BadEscape s
-by_separator raw raws text true e stands d = at_separator raw raws (subst (StandsFor raw) ((bytes_decides text separator).0 e) stands)
-by_separator raw raws text false e stands d = at_text raw raws text stands (λ same. true≢false (sym ((bytes_decides text separator).1 same) ∙ e)) (parsed_segments raws) d
+by_separator raw raws text true e stands d = at_separator raw raws (subst (DecodesTo raw) ((bytes_decides text selector_separator).0 e) stands)
+by_separator raw raws text false e stands d = at_text raw raws text stands (λ same. true≢false (sym ((bytes_decides text selector_separator).1 same) ∙ e)) (parsed_segments raws) d
 
-by_text : (raw : List ℕ) (raws : List (List ℕ)) (r : Text) → Decides (StandsFor raw) BadEscape r → Decides (Are raws) BadEscape (parsed_segments raws)
-    → Decides (Are (raw ∷ raws)) BadEscape (r >>= λ text. let s : Segments = if bytes_eq text separator then Ok ([], Some (joined slash raws)) else (parsed_segments raws >>= λ x. Ok (text ∷ x.0, x.1)) in s)
-by_text raw raws (Ok text) d rest = by_separator raw raws text (bytes_eq text separator) refl (d.sound text refl) rest
+by_text : (raw : List ℕ) (raws : List (List ℕ)) (r : Text) → Decides (DecodesTo raw) BadEscape r → Decides (Are raws) BadEscape (parsed_segments raws)
+    → Decides (Are (raw ∷ raws)) BadEscape (r >>= λ text. let s : Segments = if bytes_eq text selector_separator then Ok ([], Some (joined slash raws)) else (parsed_segments raws >>= λ x. Ok (text ∷ x.0, x.1)) in s)
+by_text raw raws (Ok text) d rest = by_separator raw raws text (bytes_eq text selector_separator) refl (d.sound text refl) rest
 by_text raw raws (Err e) d rest = at_none raw raws e (d.refused e refl) (λ text s. let i = d.complete text s in absurd cc)
 
 segments_decided : (raws : List (List ℕ)) → Decides (Are raws) BadEscape (parsed_segments raws)
@@ -155,5 +155,5 @@ segments_decided [] = record {
 }
 segments_decided (raw ∷ raws) = by_text raw raws (parsed_text raw) (text_decided raw) (segments_decided raws)
 
-pub path_decided : (path : List ℕ) → Decides (IsPath path) BadEscape (parsed_path path)
+pub path_decided : (path : List ℕ) → Decides (IsSplitPath path) BadEscape (parsed_path path)
 path_decided path = segments_decided (pieces slash path)

@@ -10,7 +10,7 @@ use Rattle.xcap_uri.specs.readers.Escapes.{parsed_text}
 use Rattle.xcap_uri.specs.readers.Steps.{UriError, ◌>>=◌}
 use Rattle.xcap_uri.specs.Roots.{slash}
 use Rattle.xcap_uri.specs.readers.Targets.{parsed_path, parsed_segments}
-use Rattle.doc_names.specs.Ids.{separator}
+use Rattle.doc_names.specs.DocIds.{selector_separator}
 use Rattle.xcap_uri.proofs.Pieces.{pieces_cut, pieces_behind}
 
 abbrev pub Segments : Type 0
@@ -52,15 +52,15 @@ module _ (total : Segments) (front : List (List ℕ)) (rest : List ℕ) (so_far 
   pub segment_fails : (e : UriError) → parsed_text (front_before slash rest) ≡ Err e → total ≡ Err e
   segment_fails e h = so_far ∙ rw (cut rest, h) refl
 
-  pub separated : (text : List ℕ) → parsed_text (front_before slash rest) ≡ Ok text → bytes_eq text separator ≡ true → total ≡ Ok (front, Some (unwrap_or (rest_after slash rest) []))
+  pub separated : (text : List ℕ) → parsed_text (front_before slash rest) ≡ Ok text → bytes_eq text selector_separator ≡ true → total ≡ Ok (front, Some (unwrap_or (rest_after slash rest) []))
   separated text h same =
       let empty : List (List ℕ) = [] in
       so_far ∙ rw (cut rest, h, same) (ap (λ (l : List ℕ). let z : List (List ℕ) × Option (List ℕ) = (front ++ empty, Some l) in let r : Segments = Ok z in r) (joined_behind slash (rest_after slash rest)) ∙ ap (λ (l : List (List ℕ)). let z : List (List ℕ) × Option (List ℕ) = (l, Some (unwrap_or (rest_after slash rest) [])) in let r : Segments = Ok z in r) (append-nil front))
 
-  pub last_segment : (text : List ℕ) → parsed_text (front_before slash rest) ≡ Ok text → bytes_eq text separator ≡ false → rest_after slash rest ≡ None → total ≡ Ok (front ++ text ∷ [], None)
+  pub last_segment : (text : List ℕ) → parsed_text (front_before slash rest) ≡ Ok text → bytes_eq text selector_separator ≡ false → rest_after slash rest ≡ None → total ≡ Ok (front ++ text ∷ [], None)
   last_segment text h other none = so_far ∙ rw (cut rest, h, other, none) refl
 
-  pub next_segment : (text tail : List ℕ) → parsed_text (front_before slash rest) ≡ Ok text → bytes_eq text separator ≡ false → rest_after slash rest ≡ Some tail → total ≡ with_segments (front ++ text ∷ []) (parsed_path tail)
+  pub next_segment : (text tail : List ℕ) → parsed_text (front_before slash rest) ≡ Ok text → bytes_eq text selector_separator ≡ false → rest_after slash rest ≡ Some tail → total ≡ with_segments (front ++ text ∷ []) (parsed_path tail)
   next_segment text tail h other some = so_far ∙ rw (cut rest, h, other, some) (longer text (parsed_path tail))
     where
       longer : (text : List ℕ) (out : Segments) → with_segments front (out >>= λ x. Ok (text ∷ x.0, x.1)) ≡ with_segments (front ++ text ∷ []) out
@@ -81,11 +81,11 @@ module _ (total : Segments) (front : List (List ℕ)) (rest raw : List ℕ) (cut
     is_read : parsed_text (front_before slash rest) ≡ Ok text
     is_read = ap parsed_text (sym cut_at) ∙ read_ok text raw read
 
-    pub at_separator : (back : List ℕ) → bytes_eq text separator ≡ true → back ≡ unwrap_or (rest_after slash rest) [] → total ≡ Ok (front, Some back)
+    pub at_separator : (back : List ℕ) → bytes_eq text selector_separator ≡ true → back ≡ unwrap_or (rest_after slash rest) [] → total ≡ Ok (front, Some back)
     at_separator back same e = separated total front rest so_far text is_read same ∙ ap (λ (l : List ℕ). let z : List (List ℕ) × Option (List ℕ) = (front, Some l) in let r : Segments = Ok z in r) (sym e)
 
-    pub at_last : bytes_eq text separator ≡ false → rest_after slash rest ≡ None → total ≡ Ok (front ++ text ∷ [], None)
+    pub at_last : bytes_eq text selector_separator ≡ false → rest_after slash rest ≡ None → total ≡ Ok (front ++ text ∷ [], None)
     at_last other none = last_segment total front rest so_far text is_read other none
 
-    pub at_next : (tail : List ℕ) → bytes_eq text separator ≡ false → rest_after slash rest ≡ Some tail → total ≡ with_segments (front ++ text ∷ []) (parsed_path tail)
+    pub at_next : (tail : List ℕ) → bytes_eq text selector_separator ≡ false → rest_after slash rest ≡ Some tail → total ≡ with_segments (front ++ text ∷ []) (parsed_path tail)
     at_next tail other some = next_segment total front rest so_far text tail is_read other some

@@ -4,22 +4,22 @@
 use Rattle.std.specs.Prelude.{ℕ, nat_eq, List, [], ◌∷◌, ◌++◌, take, codes, flat_map, if◌then◌else◌}
 use Rattle.std.specs.Option.{option_map_or}
 use Rattle.xml_tree.specs.Tree.{Tree}
-use Rattle.node_select.specs.Selection.{selected_in, longest_in}
+use Rattle.node_select.specs.Selection.{selected_element_path, longest_match_in}
 use Rattle.xml_tree.specs.PathTexts.{path_text}
 use Rattle.node_select.specs.declared.selector.Step.{Step}
-use Rattle.doc_names.specs.Ids.{id_text}
+use Rattle.doc_names.specs.DocIds.{id_text}
 use Rattle.doc_names.specs.Usages.{auid_text}
 use Rattle.doc_names.specs.declared.doc_id.Auid.{Auid}
 use Rattle.doc_names.specs.declared.doc_id.Home.{Home}
 use Rattle.doc_names.specs.declared.doc_id.Home.TheVariants.{Global, User}
 use Rattle.doc_names.specs.declared.doc_id.DocId.{DocId}
-use Rattle.doc_names.specs.Escapes.{escaped_part}
+use Rattle.doc_names.specs.PercentEscapes.{escape_part}
 
 -- the URI of a home: the root, the AUID, and `global` or `users` and the user
 abbrev pub home_uri : List ℕ → Auid → Home → List ℕ
 home_uri root auid Global = root ++ (codes "/" ++ (auid_text auid ++ codes "/global"))
 home_uri root auid (User xui) =
-    root ++ (codes "/" ++ (auid_text auid ++ (codes "/users/" ++ escaped_part xui)))
+    root ++ (codes "/" ++ (auid_text auid ++ (codes "/users/" ++ escape_part xui)))
 
 -- a character of a node selector in a URI: `[` (91) and `]` (93) are escaped
 abbrev pub bracket_escape : ℕ → List ℕ
@@ -32,4 +32,4 @@ abbrev pub ancestor_uri : List ℕ → DocId → Tree → List Step → List ℕ
 ancestor_uri root id t steps =
     (root ++ (codes "/" ++ id_text id))
     ++ option_map_or (λ p. codes "/~~/" ++ flat_map bracket_escape (path_text p))
-    (selected_in (take (longest_in steps t) steps) t) []
+    (selected_element_path (take (longest_match_in steps t) steps) t) []

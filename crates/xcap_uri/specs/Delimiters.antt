@@ -1,8 +1,8 @@
 -- Texts cut at a character: the front, the rest, all pieces.
 use Rattle.std.specs.Prelude.{ℕ, ◌==◌, nat_eq, List, [], ◌∷◌, Option, None, Some, if◌then◌else◌}
 use Rattle.std.specs.List.{onto_first}
-use Rattle.xml_tokens.specs.Tokens.{is_other}
-use Rattle.xml_grammar.specs.TextReading.{front_of, after_front}
+use Rattle.xml_tokens.specs.Tokens.{is_different_char}
+use Rattle.xml_grammar.specs.TextReading.{take_while, drop_while}
 
 abbrev pub after_first : List ℕ → Option (List ℕ)
 after_first [] = None
@@ -10,11 +10,11 @@ after_first (b ∷ bs) = Some bs
 
 -- what comes before the first `stop`: all, where there is none
 abbrev pub front_before : ℕ → List ℕ → List ℕ
-front_before stop text = front_of (is_other stop) text
+front_before stop text = take_while (is_different_char stop) text
 
 -- what comes after the first `stop`, where there is one
 abbrev pub rest_after : ℕ → List ℕ → Option (List ℕ)
-rest_after stop text = after_first (after_front (is_other stop) text)
+rest_after stop text = after_first (drop_while (is_different_char stop) text)
 
 -- the pieces between the `stop`s: one more than the number of `stop`s
 abbrev pub pieces : ℕ → List ℕ → List (List ℕ)

@@ -1,8 +1,8 @@
 pub mod Ancestors
 pub mod Delimiters
 pub mod Escapes
+pub mod FaultOrder
 pub mod Numerals
-pub mod Order
 pub mod PrintedNames
 pub mod Queries
 pub mod Roots

@@ -8,19 +8,19 @@ use Rattle.doc_names.specs.declared.doc_id.Home.{Home}
 use Rattle.doc_names.specs.declared.doc_id.Home.TheVariants.{Global, User}
 use Rattle.doc_names.specs.declared.doc_id.DocId.{DocId}
 use Rattle.xcap_uri.specs.Delimiters.{front_before, rest_after}
-use Rattle.xcap_uri.specs.Escapes.{has_whole_escapes}
+use Rattle.xcap_uri.specs.Escapes.{has_complete_escapes}
 
 -- a part of an address decodes to these octets: its escapes are complete
-abbrev pub is_part : List ℕ → List ℕ → Bool
-is_part octets part = has_whole_escapes part && bytes_eq (percent_decode part) octets
+abbrev pub part_decodes_to : List ℕ → List ℕ → Bool
+part_decodes_to octets part = has_complete_escapes part && bytes_eq (percent_decode part) octets
 
 -- the parts of an address, between its slashes (47), decode to these, one for each
-abbrev pub are_parts : List (List ℕ) → Option (List ℕ) → Bool
-are_parts [] None = true
-are_parts [] (Some address) = false
-are_parts (octets ∷ all) None = false
-are_parts (octets ∷ all) (Some address) =
-    is_part octets (front_before 47 address) && are_parts all (rest_after 47 address)
+abbrev pub parts_decode_to : List (List ℕ) → Option (List ℕ) → Bool
+parts_decode_to [] None = true
+parts_decode_to [] (Some address) = false
+parts_decode_to (octets ∷ all) None = false
+parts_decode_to (octets ∷ all) (Some address) =
+    part_decodes_to octets (front_before 47 address) && parts_decode_to all (rest_after 47 address)
 
 -- the decoded parts of a home's name: `global`, or `users` and the user
 abbrev pub home_parts : Home → List (List ℕ)
@@ -31,7 +31,7 @@ home_parts (User xui) = codes "users" ∷ encode_utf8_all xui ∷ []
 -- name
 abbrev pub is_name_of : DocId → List ℕ → Bool
 is_name_of doc name =
-    are_parts (auid_text doc.auid ∷ (home_parts doc.home ++ encode_utf8_all doc.name ∷ []))
+    parts_decode_to (auid_text doc.auid ∷ (home_parts doc.home ++ encode_utf8_all doc.name ∷ []))
     (Some (encode_utf8_all name))
 
 -- ---- names that UTF-8 can write

@@ -37,7 +37,7 @@ pub data SpellsUri : List ℕ → List ℕ → Type 0 where
       → SpellsUri (40 ∷ (inner ++ (41 ∷ text))) (40 ∷ (inside ++ (41 ∷ uri)))
 
 -- an item, and what it binds
-pub record IsItem (text : List ℕ) (binding : Decl) : Type 0 where
+pub record IsBindingItem (text : List ℕ) (binding : Decl) : Type 0 where
   pub before : List ℕ
   pub behind : List ℕ
   pub spelling : List ℕ
@@ -53,16 +53,16 @@ pub record IsItem (text : List ℕ) (binding : Decl) : Type 0 where
       × (binding.uri ≡ first ∷ rest) × (is_space first ≡ false)
 
 -- items, each with the spaces after it
-abbrev pub AreItems : List ℕ → List Decl → Type 0
-AreItems text [] = text ≡ []
-AreItems text (binding ∷ bindings) =
+abbrev pub AreBindingItems : List ℕ → List Decl → Type 0
+AreBindingItems text [] = text ≡ []
+AreBindingItems text (binding ∷ bindings) =
     (item : List ℕ) × (spaces : List ℕ) × (rest : List ℕ)
-    × (text ≡ item ++ (spaces ++ rest)) × IsItem item binding × AllPass is_blank spaces
-    × AreItems rest bindings
+    × (text ≡ item ++ (spaces ++ rest)) × IsBindingItem item binding × AllPass is_blank spaces
+    × AreBindingItems rest bindings
 
 -- a query has these bindings; an absent query has none
 abbrev pub IsQuery : Option (List ℕ) → List Decl → Type 0
 IsQuery None bindings = bindings ≡ []
 IsQuery (Some text) bindings =
     (spaces : List ℕ) × (rest : List ℕ)
-    × (text ≡ spaces ++ rest) × AllPass is_blank spaces × AreItems rest bindings
+    × (text ≡ spaces ++ rest) × AllPass is_blank spaces × AreBindingItems rest bindings

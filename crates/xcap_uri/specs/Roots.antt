@@ -27,15 +27,15 @@ abbrev pub is_segment_char : ℕ → Bool
 is_segment_char b = is_ascii_alphanumeric b || list_any (λ c. b == c) (codes "-._~")
 
 -- one or more characters of a class
-abbrev pub is_some_of : (ℕ → Bool) → List ℕ → Bool
-is_some_of p [] = false
-is_some_of p (c ∷ cs) = p c && list_all p cs
+abbrev pub is_one_or_more : (ℕ → Bool) → List ℕ → Bool
+is_one_or_more p [] = false
+is_one_or_more p (c ∷ cs) = p c && list_all p cs
 
 -- ---- by the grammar
 
 -- segments, with a slash before each
-abbrev pub path_in : List (List ℕ) → List ℕ
-path_in segments = flat_map (λ segment. slash ∷ segment) segments
+abbrev pub path_of_segments : List (List ℕ) → List ℕ
+path_of_segments segments = flat_map (λ segment. slash ∷ segment) segments
 
 -- the text is a root with this authority and this path
 pub record IsRoot (text authority path : List ℕ) : Type 0 where
@@ -43,9 +43,9 @@ pub record IsRoot (text authority path : List ℕ) : Type 0 where
   pub segments : List (List ℕ)
   pub joined : text ≡ scheme ++ (authority ++ path)
   pub scheme_is : (scheme ≡ codes "http://") ⊎ (scheme ≡ codes "https://")
-  pub authority_is : is_some_of is_authority_char authority ≡ true
-  pub path_is : path ≡ path_in segments
-  pub segments_are : list_all (is_some_of is_segment_char) segments ≡ true
+  pub authority_is : is_one_or_more is_authority_char authority ≡ true
+  pub path_is : path ≡ path_of_segments segments
+  pub segments_are : list_all (is_one_or_more is_segment_char) segments ≡ true
   pub short : length text ≤ MAX_ROOT_LEN
 
 -- ---- by the pieces between slashes (`roots_are_spelled_by_the_grammar`)
@@ -57,8 +57,8 @@ is_scheme piece = bytes_eq piece (codes "http:") || bytes_eq piece (codes "https
 -- the scheme, nothing between the two slashes after it, the authority, and the segments
 abbrev pub are_root_parts : List (List ℕ) → Bool
 are_root_parts (scheme ∷ [] ∷ authority ∷ segments) =
-    is_scheme scheme && is_some_of is_authority_char authority
-    && list_all (is_some_of is_segment_char) segments
+    is_scheme scheme && is_one_or_more is_authority_char authority
+    && list_all (is_one_or_more is_segment_char) segments
 are_root_parts _ = false
 
 -- the text is a root
@@ -66,16 +66,16 @@ abbrev pub is_root_text : List ℕ → Bool
 is_root_text text = nat_le (length text) MAX_ROOT_LEN && are_root_parts (pieces slash text)
 
 -- the third piece
-abbrev pub third : List (List ℕ) → List ℕ
-third (first ∷ second ∷ piece ∷ others) = piece
-third _ = []
+abbrev pub third_piece : List (List ℕ) → List ℕ
+third_piece (first ∷ second ∷ piece ∷ others) = piece
+third_piece _ = []
 
 -- the authority of a root, and its path
 abbrev pub authority_of : List ℕ → List ℕ
-authority_of root = third (pieces slash root)
+authority_of root = third_piece (pieces slash root)
 
 abbrev pub path_of : List ℕ → List ℕ
-path_of root = path_in (drop 3 (pieces slash root))
+path_of root = path_of_segments (drop 3 (pieces slash root))
 
 -- the root that a text is, if it is one
 unfoldable pub root_of : List ℕ → Option (List ℕ)

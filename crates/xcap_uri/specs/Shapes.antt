@@ -21,19 +21,19 @@ use Rattle.xcap_uri.specs.declared.shape.Shape.TheVariants.{Flat}
 -- ---- the words
 
 -- the segments of a home: `global`, or `users` and a user
-abbrev pub home_words : Home → List (List ℕ)
-home_words Global = global ∷ []
-home_words (User xui) = users ∷ xui ∷ []
+abbrev pub home_segments : Home → List (List ℕ)
+home_segments Global = global ∷ []
+home_segments (User xui) = users ∷ xui ∷ []
 
 -- the name of a diff processing mode (RFC 5875, section 4.3)
-abbrev pub mode_word : Mode → List ℕ
-mode_word NoPatching = chars (codes "no-patching")
-mode_word XcapPatching = chars (codes "xcap-patching")
-mode_word Aggregate = chars (codes "aggregate")
+abbrev pub mode_name : Mode → List ℕ
+mode_name NoPatching = chars (codes "no-patching")
+mode_name XcapPatching = chars (codes "xcap-patching")
+mode_name Aggregate = chars (codes "aggregate")
 
 -- the number of an etag, which is a numeral
-abbrev pub tag_spelled : List ℕ → Option ℕ
-tag_spelled text = numeral_of (encode_utf8_all text)
+abbrev pub parse_tag : List ℕ → Option ℕ
+parse_tag text = numeral_of (encode_utf8_all text)
 
 -- ---- what they name
 
@@ -41,55 +41,57 @@ abbrev pub doc_of : Auid → Home → List ℕ → DocId
 doc_of auid home name = record { auid = auid; home = home; name = name }
 
 -- the segments of what is in a home: the AUID, the home and these
-abbrev pub in_home : Auid → Home → List (List ℕ) → List (List ℕ)
-in_home auid home rest = chars (auid_text auid) ∷ (home_words home ++ rest)
+abbrev pub segments_in_home : Auid → Home → List (List ℕ) → List (List ℕ)
+segments_in_home auid home rest = chars (auid_text auid) ∷ (home_segments home ++ rest)
 
 -- the segments of the feed of a user's document: `~feed`, the mode, the etag, the AUID, `users`,
 -- the user and the name
-abbrev pub in_feed : List ℕ → List ℕ → Auid → List ℕ → List ℕ → List (List ℕ)
-in_feed mode digits auid xui name =
+abbrev pub feed_segments : List ℕ → List ℕ → Auid → List ℕ → List ℕ → List (List ℕ)
+feed_segments mode digits auid xui name =
     feed ∷ mode ∷ digits ∷ chars (auid_text auid) ∷ users ∷ xui ∷ name ∷ []
 
 -- segments, and the text of a selector, name a shape, which is called as the target that it means
-pub data Names (segments : List (List ℕ)) (selector : Option (List ℕ)) : Shape → Type 0 where
+pub data NamesShape (segments : List (List ℕ)) (selector : Option (List ℕ)) : Shape → Type 0 where
   -- an AUID, a home and a name: a document
   names_document : (auid : Auid) (home : Home) (name : List ℕ)
-      → segments ≡ in_home auid home (name ∷ []) → selector ≡ None
-      → Names segments selector (Document (doc_of auid home name))
+      → segments ≡ segments_in_home auid home (name ∷ []) → selector ≡ None
+      → NamesShape segments selector (Document (doc_of auid home name))
   -- likewise with a selector, which isn't empty: a node of the document
   names_node : (auid : Auid) (home : Home) (name text : List ℕ)
-      → segments ≡ in_home auid home (name ∷ []) → selector ≡ Some text → text ≢ []
-      → Names segments selector (Node (doc_of auid home name) text)
+      → segments ≡ segments_in_home auid home (name ∷ []) → selector ≡ Some text → text ≢ []
+      → NamesShape segments selector (Node (doc_of auid home name) text)
   -- with further segments: what would be below a document; its selector isn't looked at
   names_deep : (auid : Auid) (home : Home) (name next : List ℕ) (more : List (List ℕ))
-      → segments ≡ in_home auid home (name ∷ next ∷ more) → Names segments selector (Deep auid home)
+      → segments ≡ segments_in_home auid home (name ∷ next ∷ more)
+      → NamesShape segments selector (Deep auid home)
   -- the feed of a document of a stored AUID has a mode, and no selector
   names_feed : (mode : Mode) (tag : ℕ) (digits : List ℕ) (auid : Auid) (usage : Usage)
       (xui name : List ℕ)
-      → segments ≡ in_feed (mode_word mode) digits auid xui name
-      → tag_spelled digits ≡ Some tag → usage_of auid ≡ Some usage → selector ≡ None
-      → Names segments selector (Feed mode tag (doc_of auid (User xui) name))
+      → segments ≡ feed_segments (mode_name mode) digits auid xui name
+      → parse_tag digits ≡ Some tag → usage_of auid ≡ Some usage → selector ≡ None
+      → NamesShape segments selector (Feed mode tag (doc_of auid (User xui) name))
   -- the feed of an element has `element` in place of the mode, and a selector, which isn't empty
   names_element_feed : (tag : ℕ) (digits : List ℕ) (auid : Auid) (usage : Usage)
       (xui name text : List ℕ)
-      → segments ≡ in_feed element_word digits auid xui name
-      → tag_spelled digits ≡ Some tag → usage_of auid ≡ Some usage → selector ≡ Some text
-      → text ≢ [] → Names segments selector (ElementFeed tag (doc_of auid (User xui) name) text)
+      → segments ≡ feed_segments element_word digits auid xui name
+      → parse_tag digits ≡ Some tag → usage_of auid ≡ Some usage → selector ≡ Some text
+      → text ≢ []
+      → NamesShape segments selector (ElementFeed tag (doc_of auid (User xui) name) text)
   -- `~flat`, a user, a name and the address of a service, without selector: the flat list of that
   -- service
   names_flat : (xui name service : List ℕ) → segments ≡ flat ∷ xui ∷ name ∷ service ∷ []
       → selector ≡ None
-      → Names segments selector (Flat (doc_of RlsServices (User xui) name) service)
+      → NamesShape segments selector (Flat (doc_of RlsServices (User xui) name) service)
 
 -- ---- how they begin
 
 -- the first segment is `~feed`, `~flat` or an AUID
-abbrev pub BeginRightly : List (List ℕ) → Type 0
-BeginRightly [] = ⊥
-BeginRightly (first ∷ rest) =
+abbrev pub HasKnownFirstSegment : List (List ℕ) → Type 0
+HasKnownFirstSegment [] = ⊥
+HasKnownFirstSegment (first ∷ rest) =
     (first ≡ feed) ⊎ ((first ≡ flat) ⊎ ((auid : Auid) × (first ≡ chars (auid_text auid))))
 
 -- no segment is empty
-abbrev pub AreNamed : List (List ℕ) → Type 0
-AreNamed [] = Unit {0}
-AreNamed (segment ∷ segments) = (segment ≢ []) × AreNamed segments
+abbrev pub AreNonEmpty : List (List ℕ) → Type 0
+AreNonEmpty [] = Unit {0}
+AreNonEmpty (segment ∷ segments) = (segment ≢ []) × AreNonEmpty segments

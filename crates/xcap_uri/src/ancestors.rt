@@ -4,8 +4,8 @@ ghost use Rattle.std.specs.Prelude.{flat_map, take};
 ghost use Rattle.xml_names.specs.declared.limits.TheConstants.{MAX_LEVELS};
 ghost use Rattle.xml_tree.specs.Tree.{height};
 ghost use Rattle.xml_tree.specs.PathTexts.{path_text};
-ghost use Rattle.node_select.specs.Selection.{longest_in, selected_in};
-ghost use Rattle.doc_names.specs.Ids.{id_text};
+ghost use Rattle.node_select.specs.Selection.{longest_match_in, selected_element_path};
+ghost use Rattle.doc_names.specs.DocIds.{id_text};
 ghost use Rattle.xcap_uri.specs.Ancestors.{ancestor_uri, bracket_escape, home_uri};
 
 use crate::root::Root;
@@ -13,7 +13,7 @@ use doc_names::{Auid, DocId, Home, print_doc_id};
 use node_select::{Selector, longest_match, select_steps};
 use std::alloc::Global;
 use xml_names::{NoMemory, Text};
-use xml_tokens::no_text;
+use xml_tokens::empty_text;
 use xml_tree::{Element, Path, print_path};
 
 // The root, a slash and this path.
@@ -27,7 +27,7 @@ fn uri_under(alloc: Global, root: &Root, path: &str) -> Result<Text, NoMemory>
 }
 
 // A text without its last character.
-fn without_last(text: &str) -> &str
+fn drop_last_char(text: &str) -> &str
     ensures drops_last { (front : List ℕ) (c : ℕ) → chars text.now ≡ front ++ c ∷ []
         → chars result.now ≡ front }
 {
@@ -45,7 +45,7 @@ fn unnamed_id(alloc: Global, auid: Auid, home: &Home) -> Result<Text, NoMemory>
     let unnamed = DocId {
         auid,
         home,
-        name: no_text(alloc),
+        name: empty_text(alloc),
     };
     print_doc_id(alloc, &unnamed)
 }
@@ -58,7 +58,7 @@ pub fn home_uri(alloc: Global, root: &Root, auid: Auid, home: &Home) -> Result<T
     ensures ok { IfOk result (λ uri. uri ≡ home_uri root.now auid home.now) }
 {
     let id = unnamed_id(alloc, auid, home)?;
-    uri_under(alloc, root, without_last(id.as_str()))
+    uri_under(alloc, root, drop_last_char(id.as_str()))
 }
 
 // The URI of a document.
@@ -104,10 +104,11 @@ fn push_path(alloc: Global, uri: &mut Text, path: &Path) -> Result<(), NoMemory>
 }
 
 // The path of the element that the longest prefix of the steps selects.
-fn closest(alloc: Global, tree: &Element, selector: &Selector) -> Option<Path>
+fn closest_path(alloc: Global, tree: &Element, selector: &Selector) -> Option<Path>
     requires { height tree.now ≤ MAX_LEVELS }
     ensures exact { result
-        ≡ selected_in (take (longest_in selector.now.steps tree.now) selector.now.steps) tree.now }
+        ≡ selected_element_path
+        (take (longest_match_in selector.now.steps tree.now) selector.now.steps) tree.now }
 {
     let matched = longest_match(alloc, tree, selector);
     select_steps(alloc, tree, &selector.steps.as_slice()[..matched])
@@ -131,7 +132,7 @@ pub fn ancestor_uri(
         (λ uri. uri ≡ ancestor_uri root.now doc.now tree.now selector.now.steps) }
 {
     let mut uri = document_uri(alloc, root, doc)?;
-    if let Some(path) = closest(alloc, tree, selector) {
+    if let Some(path) = closest_path(alloc, tree, selector) {
         push_path(alloc, &mut uri, &path)?;
     }
     Ok(uri)

@@ -1,14 +1,14 @@
 //! Cuts octets at the delimiters of an address's parts (RFC 3986, section 3).
 ghost use Rattle.std.specs.Prelude.{◌≡◌, option_map};
-ghost use Rattle.xml_tokens.specs.Tokens.{is_other};
+ghost use Rattle.xml_tokens.specs.Tokens.{is_different_char};
 ghost use Rattle.xcap_uri.specs.Delimiters.{rest_after_front, front_before, rest_after};
-ghost use Rattle.xml_tokens.specs.readers.Runs.{run_len};
-ghost use Rattle.xml_grammar.specs.TextReading.{after_front};
+ghost use Rattle.xml_tokens.specs.readers.CharacterRuns.{run_len};
+ghost use Rattle.xml_grammar.specs.TextReading.{drop_while};
 
 // The number of octets before the first `stop`.
 #[tactic(auto, using(xml_tokens::proofs::RunLemmas::run_more, xml_tokens::proofs::RunLemmas::run_done))]
 fn len_before(text: &[u8], stop: u8) -> usize
-    ensures exact { result ≡ run_len (is_other stop) text.now }
+    ensures exact { result ≡ run_len (is_different_char stop) text.now }
 {
     let mut len = 0;
     for &b in text {
@@ -24,7 +24,7 @@ fn len_before(text: &[u8], stop: u8) -> usize
 /// none.
 pub fn cut_before(text: &[u8], stop: u8) -> (&[u8], &[u8])
     ensures front_before_stop { result.0.now ≡ front_before stop text.now }
-    ensures rest_after_stop { result.1.now ≡ after_front (is_other stop) text.now }
+    ensures rest_after_stop { result.1.now ≡ drop_while (is_different_char stop) text.now }
 {
     text.split_at(len_before(text, stop))
 }
@@ -42,7 +42,7 @@ pub fn cut(text: &[u8], stop: u8) -> (&[u8], Option<&[u8]>)
 }
 
 /// What comes after `front`, if the text begins with it.
-pub fn after<'a>(text: &'a [u8], front: &[u8]) -> Option<&'a [u8]>
+pub fn strip_front<'a>(text: &'a [u8], front: &[u8]) -> Option<&'a [u8]>
     ensures rest_after_run { option_map (λ x. x.now) result ≡ rest_after_front front.now text.now }
 {
     let mut rest = text;

@@ -1,7 +1,7 @@
 //! Percent-escapes in parts of addresses (RFC 3986, section 2.1).
 ghost use Rattle.std.specs.Prelude.{◌≡◌, option_map};
-ghost use Rattle.xcap_uri.specs.Escapes.{has_whole_escapes};
-ghost use Rattle.xcap_uri.specs.inner.Results.{StatedOr};
+ghost use Rattle.xcap_uri.specs.Escapes.{has_complete_escapes};
+ghost use Rattle.xcap_uri.specs.inner.Results.{IsStatedOr};
 ghost use Rattle.xcap_uri.specs.readers.Escapes.{parsed_optional_text, parsed_text};
 
 use crate::fault::UriFault;
@@ -10,8 +10,8 @@ use std::alloc::Global;
 use xml_names::{ReadError, Text};
 
 /// Whether each `%` is followed by two hexadecimal digits.
-pub fn has_whole_escapes(part: &[u8]) -> bool
-    ensures exact { result ≡ has_whole_escapes part.now }
+pub fn has_complete_escapes(part: &[u8]) -> bool
+    ensures exact { result ≡ has_complete_escapes part.now }
 {
     let mut rest = part;
     loop {
@@ -36,9 +36,9 @@ pub fn has_whole_escapes(part: &[u8]) -> bool
 /// UTF-8; `NoMemory` when out of memory.
 #[tactic(auto, using(crate::proofs::EscapeLemmas::read_as_text, crate::proofs::EscapeLemmas::read_as_no_text, crate::proofs::EscapeLemmas::read_as_no_escapes))]
 pub fn read_part(alloc: Global, part: &[u8]) -> Result<Text, ReadError<UriFault>>
-    ensures exact { StatedOr ReadError.NoMemory (parsed_text part.now) result }
+    ensures exact { IsStatedOr ReadError.NoMemory (parsed_text part.now) result }
 {
-    if !has_whole_escapes(part) {
+    if !has_complete_escapes(part) {
         return Err(ReadError::Fault(UriFault::BadEscape));
     }
     match percent_decode(part).decode_utf8(alloc) {
@@ -59,7 +59,7 @@ pub fn read_optional_part(
     alloc: Global,
     part: Option<&[u8]>,
 ) -> Result<Option<Text>, ReadError<UriFault>>
-    ensures reads_optional_part { StatedOr ReadError.NoMemory
+    ensures reads_optional_part { IsStatedOr ReadError.NoMemory
         (parsed_optional_text (option_map (λ x. x.now) part.entry)) result }
 {
     match part {

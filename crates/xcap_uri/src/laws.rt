@@ -1,12 +1,12 @@
 //! Laws of targets; nothing here runs.
 ghost use Rattle.std.specs.Prelude.{◌≡◌, ◌↔◌, ◌++◌, ◌∷◌, ℕ, true, List, Option, Result, All, Ok};
 ghost use Rattle.xml_names.specs.declared.names.Decl.{Decl};
-ghost use Rattle.xml_names.specs.Memory.{Answered};
-ghost use Rattle.doc_names.specs.Ids.{IsAddressable, id_text};
+ghost use Rattle.xml_names.specs.ReadErrors.{ResultSatisfies};
+ghost use Rattle.doc_names.specs.DocIds.{IsAddressable, id_text};
 ghost use Rattle.xcap_uri.specs.Queries.{IsQuery};
 ghost use Rattle.xcap_uri.specs.Roots.{IsRoot, authority_of, path_of, slash, is_root_text};
-ghost use Rattle.xcap_uri.specs.inner.OctetTexts.{IsOctet, IsSpelled, IsSpelledHome};
-ghost use Rattle.xcap_uri.specs.Targets.{IsReadableTarget, TargetResult};
+ghost use Rattle.xcap_uri.specs.inner.OctetTexts.{IsOctet, IsDecodedText, IsDecodedHome};
+ghost use Rattle.xcap_uri.specs.Targets.{IsReadableTarget, IsTargetResult};
 ghost use Rattle.xcap_uri.specs.declared.fault.UriFault.{UriFault};
 ghost use Rattle.xcap_uri.specs.declared.target.Target.{Target};
 ghost use Rattle.xcap_uri.specs.declared.target.Target.TheVariants as targets;
@@ -18,24 +18,24 @@ use doc_names::{DocId, Home};
 use xml_names::Text;
 
 // Octets are small numbers.
-fn are_octets(octets: &[u8])
+fn octets_are_bytes(octets: &[u8])
     ensures all_octets { All IsOctet octets.now }
 {}
 
 // Every text is the decoding of some octets.
-fn is_spelled(text: &Text)
-    ensures spelled_text { IsSpelled text.now }
+fn text_is_decoded(text: &Text)
+    ensures spelled_text { IsDecodedText text.now }
 {
-    are_octets(text.as_str().as_bytes());
+    octets_are_bytes(text.as_str().as_bytes());
 }
 
 // The user of a home is the decoding of some octets.
-fn is_spelled_home(home: &Home)
-    ensures spelled_home { IsSpelledHome home.now }
+fn home_is_decoded(home: &Home)
+    ensures spelled_home { IsDecodedHome home.now }
 {
     match home {
         Home::Global => {}
-        Home::User(xui) => is_spelled(xui),
+        Home::User(xui) => text_is_decoded(xui),
     }
 }
 
@@ -43,15 +43,15 @@ fn is_spelled_home(home: &Home)
 /// the path of a root and a slash and after the whole root and a slash (RFC 4825, section 6.2).
 pub fn printed_id_reads_back(root: &Root, doc: &DocId)
     ensures below_root_path { IsAddressable doc.now
-        → TargetResult root.now (path_of root.now ++ (slash ∷ id_text doc.now))
+        → IsTargetResult root.now (path_of root.now ++ (slash ∷ id_text doc.now))
         (Ok (targets.Document doc.now)) }
     ensures below_whole_root { IsAddressable doc.now
-        → TargetResult root.now (root.now ++ (slash ∷ id_text doc.now))
+        → IsTargetResult root.now (root.now ++ (slash ∷ id_text doc.now))
         (Ok (targets.Document doc.now)) }
 {
     let _text = root.text();
-    is_spelled_home(&doc.home);
-    is_spelled(&doc.name);
+    home_is_decoded(&doc.home);
+    text_is_decoded(&doc.name);
 }
 
 /// A law: by the rules each target has one result under a root: its meaning, or the first of its
@@ -59,12 +59,13 @@ pub fn printed_id_reads_back(root: &Root, doc: &DocId)
 /// name each id in it.
 pub fn targets_have_one_answer()
     ensures exists_one { (root target : List ℕ) → (answer : Result Target UriFault)
-        × TargetResult root target answer }
+        × IsTargetResult root target answer }
     ensures at_most_one { (root target : List ℕ) (a b : Result Target UriFault)
-        → TargetResult root target a → TargetResult root target b → a ≡ b }
+        → IsTargetResult root target a → IsTargetResult root target b → a ≡ b }
     ensures answer_is_exact { (root target : List ℕ)
-        → Answered (TargetResult root target) (parsed_target root target) }
-    ensures ids_are_readable { (root target : List ℕ) (t : Target) → TargetResult root target (Ok t)
+        → ResultSatisfies (IsTargetResult root target) (parsed_target root target) }
+    ensures ids_are_readable { (root target : List ℕ) (t : Target)
+        → IsTargetResult root target (Ok t)
         → IsReadableTarget t }
 {}
 

@@ -11,7 +11,7 @@ fn begins_with_digit(octets: &[u8]) -> bool
 }
 
 // The number that digits write, if it has at most 64 bits.
-fn number_of(octets: &[u8]) -> Option<u64>
+fn parse_digits(octets: &[u8]) -> Option<u64>
     ensures exact { result ≡ number_after 0 octets.now }
 {
     let mut number: u64 = 0;
@@ -26,11 +26,11 @@ fn number_of(octets: &[u8]) -> Option<u64>
 }
 
 /// The number of a numeral, if it is one and has at most 64 bits. Does not allocate.
-pub fn numeral(octets: &[u8]) -> Option<u64>
+pub fn parse_numeral(octets: &[u8]) -> Option<u64>
     ensures exact { result ≡ numeral_of octets.now }
 {
     if !begins_with_digit(octets) {
         return None;
     }
-    number_of(octets)
+    parse_digits(octets)
 }

@@ -2,23 +2,23 @@
 //! prefixes.
 ghost use Rattle.std.specs.Prelude.{◌≡◌, ◌<◌, ◌+◌, ◌^◌, ◌∷◌, length, option_map};
 ghost use Rattle.std.specs.Str.{bytes_eq};
-ghost use Rattle.xml_grammar.specs.TextReading.{after_front, head_is};
+ghost use Rattle.xml_grammar.specs.TextReading.{drop_while, first_char_is};
 ghost use Rattle.xml_names.specs.Characters.{is_name_char, is_name_start, is_space};
-ghost use Rattle.xml_tokens.specs.readers.Runs.{run_len};
+ghost use Rattle.xml_tokens.specs.readers.CharacterRuns.{run_len};
 ghost use Rattle.xcap_uri.specs.Delimiters.{rest_after_front};
-ghost use Rattle.xcap_uri.specs.inner.Results.{Gives, StatedOr};
+ghost use Rattle.xcap_uri.specs.inner.Results.{GivesStated, IsStatedOr};
 ghost use Rattle.xcap_uri.specs.Queries.{is_blank, is_bracket_or_caret};
 ghost use Rattle.xcap_uri.specs.readers.Queries.{parsed_bindings, after_equals, is_reserved};
 ghost use Rattle.xcap_uri.specs.readers.Queries.{parsed_item, parsed_optional_bindings};
 ghost use Rattle.xcap_uri.specs.readers.Queries.{parsed_prefix};
-ghost use Rattle.xcap_uri.specs.readers.Queries.{parsed_free_prefix, uri_chars, parsed_uri};
-ghost use Rattle.xcap_uri.specs.readers.UriSteps.{IsShorter, StepsTo, item_in};
+ghost use Rattle.xcap_uri.specs.readers.Queries.{parsed_free_prefix, parse_uri_chars, parsed_uri};
+ghost use Rattle.xcap_uri.specs.readers.UriSteps.{IsShorter, StepsTo, item_view};
 
 use crate::fault::UriFault;
 use node_select::Bindings;
 use std::alloc::Global;
 use xml_names::{ReadError, Text, is_name_char, is_name_start, is_space};
-use xml_tokens::{chars_of_text, no_text, text_of};
+use xml_tokens::{chars_of_text, empty_text, text_of};
 
 // The next step in the URI of an item.
 enum UriStep<'a> {
@@ -84,21 +84,21 @@ fn name_len(text: &[char]) -> usize
 }
 
 // The text after leading white space.
-fn past_space(text: &[char]) -> &[char]
-    ensures exact { result.now ≡ after_front is_space text.now }
+fn skip_space(text: &[char]) -> &[char]
+    ensures exact { result.now ≡ drop_while is_space text.now }
 {
     text.split_at(space_len(text)).1
 }
 
 // The text after leading spaces.
-fn past_blanks(text: &[char]) -> &[char]
-    ensures exact { result.now ≡ after_front is_blank text.now }
+fn skip_blanks(text: &[char]) -> &[char]
+    ensures exact { result.now ≡ drop_while is_blank text.now }
 {
     text.split_at(blank_len(text)).1
 }
 
 // The text after `word`, if it begins with it.
-fn after<'a>(text: &'a [char], word: &[char]) -> Option<&'a [char]>
+fn strip_front<'a>(text: &'a [char], word: &[char]) -> Option<&'a [char]>
     ensures exact { option_map (λ x. x.now) result ≡ rest_after_front word.now text.now }
 {
     let mut rest = text;
@@ -112,18 +112,18 @@ fn after<'a>(text: &'a [char], word: &[char]) -> Option<&'a [char]>
 }
 
 // The text after `=` and the white space around it.
-fn past_equals(text: &[char]) -> Result<&[char], ReadError<UriFault>>
-    ensures reads_rule { Gives (λ x. x.now) result (after_equals text.now) }
+fn skip_equals(text: &[char]) -> Result<&[char], ReadError<UriFault>>
+    ensures reads_rule { GivesStated (λ x. x.now) result (after_equals text.now) }
 {
-    match after(past_space(text), &['=']) {
+    match strip_front(skip_space(text), &['=']) {
         None => Err(ReadError::Fault(UriFault::BadQuery)),
-        Some(rest) => Ok(past_space(rest)),
+        Some(rest) => Ok(skip_space(rest)),
     }
 }
 
 // Whether the text begins with a name.
-fn begins_name(text: &[char]) -> bool
-    ensures exact { result ≡ head_is is_name_start text.now }
+fn begins_with_name(text: &[char]) -> bool
+    ensures exact { result ≡ first_char_is is_name_start text.now }
 {
     match text {
         [] => false,
@@ -132,10 +132,10 @@ fn begins_name(text: &[char]) -> bool
 }
 
 // A name, and what comes after it.
-fn name(text: &[char]) -> Result<(&[char], &[char]), ReadError<UriFault>>
-    ensures reads_rule { Gives (λ x. (x.0.now, x.1.now)) result (parsed_prefix text.now) }
+fn parse_name(text: &[char]) -> Result<(&[char], &[char]), ReadError<UriFault>>
+    ensures reads_rule { GivesStated (λ x. (x.0.now, x.1.now)) result (parsed_prefix text.now) }
 {
-    if !begins_name(text) {
+    if !begins_with_name(text) {
         return Err(ReadError::Fault(UriFault::BadQuery));
     }
     Ok(text.split_at(name_len(text)))
@@ -167,7 +167,7 @@ fn is_escapable(c: char) -> bool
 
 // The step after a `^`.
 fn escaped_step(depth: usize, rest: &[char]) -> UriStep<'_>
-    ensures steps_by_rule { StepsTo result (uri_chars depth (94 ∷ rest.now)) }
+    ensures steps_by_rule { StepsTo result (parse_uri_chars depth (94 ∷ rest.now)) }
     ensures rest_shrinks { IsShorter depth (94 ∷ rest.now) result }
 {
     match rest {
@@ -178,7 +178,7 @@ fn escaped_step(depth: usize, rest: &[char]) -> UriStep<'_>
 
 // The step of a `)`, where `depth` parentheses are open.
 fn closing_step(depth: usize, rest: &[char]) -> UriStep<'_>
-    ensures steps_by_rule { StepsTo result (uri_chars depth (41 ∷ rest.now)) }
+    ensures steps_by_rule { StepsTo result (parse_uri_chars depth (41 ∷ rest.now)) }
     ensures rest_shrinks { IsShorter depth (41 ∷ rest.now) result }
 {
     if depth == 0 {
@@ -190,7 +190,7 @@ fn closing_step(depth: usize, rest: &[char]) -> UriStep<'_>
 // The step of a character, where `depth` parentheses are open.
 fn char_step(depth: usize, c: char, rest: &[char]) -> UriStep<'_>
     requires { depth + 1 < 2 ^ 64 }
-    ensures steps_by_rule { StepsTo result (uri_chars depth (c ∷ rest.now)) }
+    ensures steps_by_rule { StepsTo result (parse_uri_chars depth (c ∷ rest.now)) }
     ensures rest_shrinks { IsShorter depth (c ∷ rest.now) result }
 {
     match c {
@@ -204,7 +204,7 @@ fn char_step(depth: usize, c: char, rest: &[char]) -> UriStep<'_>
 // The next step, where `depth` parentheses are open.
 fn uri_step(depth: usize, text: &[char]) -> UriStep<'_>
     requires { depth + length text.now < 2 ^ 64 }
-    ensures steps_by_rule { StepsTo result (uri_chars depth text.now) }
+    ensures steps_by_rule { StepsTo result (parse_uri_chars depth text.now) }
     ensures rest_shrinks { IsShorter depth text.now result }
 {
     match text {
@@ -214,10 +214,10 @@ fn uri_step(depth: usize, text: &[char]) -> UriStep<'_>
 }
 
 // The URI up to the `)` that ends its item, and what comes after that.
-fn uri_chars(alloc: Global, text: &[char]) -> Result<(Text, &[char]), ReadError<UriFault>>
-    ensures reads_rule { Gives (λ x. (x.0, x.1.now)) result (uri_chars 0 text.now) }
+fn parse_uri_chars(alloc: Global, text: &[char]) -> Result<(Text, &[char]), ReadError<UriFault>>
+    ensures reads_rule { GivesStated (λ x. (x.0, x.1.now)) result (parse_uri_chars 0 text.now) }
 {
-    let mut uri = no_text(alloc);
+    let mut uri = empty_text(alloc);
     let mut depth = 0;
     let mut rest = text;
     'chars: loop {
@@ -234,10 +234,10 @@ fn uri_chars(alloc: Global, text: &[char]) -> Result<(Text, &[char]), ReadError<
 }
 
 // A URI that isn't empty, and what comes after its `)`.
-fn uri(alloc: Global, text: &[char]) -> Result<(Text, &[char]), ReadError<UriFault>>
-    ensures reads_rule { Gives (λ x. (x.0, x.1.now)) result (parsed_uri text.now) }
+fn parse_uri(alloc: Global, text: &[char]) -> Result<(Text, &[char]), ReadError<UriFault>>
+    ensures reads_rule { GivesStated (λ x. (x.0, x.1.now)) result (parsed_uri text.now) }
 {
-    let (uri, rest) = uri_chars(alloc, text)?;
+    let (uri, rest) = parse_uri_chars(alloc, text)?;
     if uri.is_empty() {
         return Err(ReadError::Fault(UriFault::BadQuery));
     }
@@ -245,10 +245,11 @@ fn uri(alloc: Global, text: &[char]) -> Result<(Text, &[char]), ReadError<UriFau
 }
 
 // A prefix that an item may bind, and what comes after it.
-fn prefix(text: &[char]) -> Result<(&[char], &[char]), ReadError<UriFault>>
-    ensures reads_rule { Gives (λ x. (x.0.now, x.1.now)) result (parsed_free_prefix text.now) }
+fn parse_prefix(text: &[char]) -> Result<(&[char], &[char]), ReadError<UriFault>>
+    ensures reads_rule { GivesStated (λ x. (x.0.now, x.1.now)) result
+        (parsed_free_prefix text.now) }
 {
-    let (prefix, rest) = name(text)?;
+    let (prefix, rest) = parse_name(text)?;
     if is_reserved(prefix) {
         return Err(ReadError::Fault(UriFault::BadQuery));
     }
@@ -257,31 +258,31 @@ fn prefix(text: &[char]) -> Result<(&[char], &[char]), ReadError<UriFault>>
 
 // An item, and what comes after it.
 fn read_item(alloc: Global, text: &[char]) -> Result<Item<'_>, ReadError<UriFault>>
-    ensures reads_rule { Gives item_in result (parsed_item text.now) }
+    ensures reads_rule { GivesStated item_view result (parsed_item text.now) }
 {
-    let Some(inner) = after(text, &['x', 'm', 'l', 'n', 's', '(']) else {
+    let Some(inner) = strip_front(text, &['x', 'm', 'l', 'n', 's', '(']) else {
         return Err(ReadError::Fault(UriFault::BadQuery));
     };
-    let (prefix, rest) = prefix(inner)?;
-    let rest = past_equals(rest)?;
-    let (uri, rest) = uri(alloc, rest)?;
+    let (prefix, rest) = parse_prefix(inner)?;
+    let rest = skip_equals(rest)?;
+    let (uri, rest) = parse_uri(alloc, rest)?;
     let prefix = text_of(alloc, prefix)?;
     Ok(Item { prefix, uri, rest })
 }
 
 // The bindings of a query.
 fn read_items(alloc: Global, text: &[char]) -> Result<Bindings, ReadError<UriFault>>
-    ensures exact { StatedOr ReadError.NoMemory (parsed_bindings text.now) result }
+    ensures exact { IsStatedOr ReadError.NoMemory (parsed_bindings text.now) result }
 {
     let mut bindings = Bindings::none(alloc);
-    let mut rest = past_blanks(text);
+    let mut rest = skip_blanks(text);
     'items: for _ in 0..text.len() {
         if rest.is_empty() {
             return Ok(bindings);
         }
         let item = read_item(alloc, rest)?;
         bindings.bind(item.prefix.as_str(), item.uri.as_str())?;
-        rest = past_blanks(item.rest);
+        rest = skip_blanks(item.rest);
     }
     if rest.is_empty() {
         return Ok(bindings);
@@ -294,7 +295,7 @@ fn read_items(alloc: Global, text: &[char]) -> Result<Bindings, ReadError<UriFau
 /// # Errors
 /// `BadQuery` exactly where the query isn't a sequence of items; `NoMemory` when out of memory.
 pub fn read_query(alloc: Global, query: &Option<Text>) -> Result<Bindings, ReadError<UriFault>>
-    ensures exact { StatedOr ReadError.NoMemory (parsed_optional_bindings query.now) result }
+    ensures exact { IsStatedOr ReadError.NoMemory (parsed_optional_bindings query.now) result }
 {
     match query {
         None => Ok(Bindings::none(alloc)),

@@ -3,14 +3,14 @@ ghost use Rattle.std.specs.Prelude.{◌≡◌, true, IfOk, chars, option_map, So
 ghost use Rattle.std.specs.List.{list_all};
 ghost use Rattle.xcap_uri.specs.Delimiters.{pieces};
 ghost use Rattle.xcap_uri.specs.Roots.{authority_of, is_authority_char, is_segment_char};
-ghost use Rattle.xcap_uri.specs.Roots.{is_some_of, path_of, root_of, slash, is_root_text};
+ghost use Rattle.xcap_uri.specs.Roots.{is_one_or_more, path_of, root_of, slash, is_root_text};
 ghost use Rattle.xcap_uri.specs.readers.Roots.{are_authority_and_segments, strip_scheme};
 
-use crate::delimiters::{after, cut, cut_before};
+use crate::delimiters::{cut, cut_before, strip_front};
 use std::alloc::{AllocError, Global};
 use std::marker::Model;
 use xml_names::Text;
-use xml_tokens::no_text;
+use xml_tokens::empty_text;
 
 /// The greatest number of octets of a root.
 const MAX_ROOT_LEN: usize = 256;
@@ -109,7 +109,7 @@ fn are_segment_chars(piece: &[u8]) -> bool
 // Whether the piece is an authority.
 #[tactic(auto, using(crate::proofs::Pieces::some_of))]
 fn is_authority(piece: &[u8]) -> bool
-    ensures exact { result ≡ is_some_of is_authority_char piece.now }
+    ensures exact { result ≡ is_one_or_more is_authority_char piece.now }
 {
     match piece {
         [] => false,
@@ -120,7 +120,7 @@ fn is_authority(piece: &[u8]) -> bool
 // Whether the piece is a segment of a root's path.
 #[tactic(auto, using(crate::proofs::Pieces::some_of))]
 fn is_segment(piece: &[u8]) -> bool
-    ensures exact { result ≡ is_some_of is_segment_char piece.now }
+    ensures exact { result ≡ is_one_or_more is_segment_char piece.now }
 {
     match piece {
         [] => false,
@@ -131,7 +131,7 @@ fn is_segment(piece: &[u8]) -> bool
 // Whether the pieces between slashes are segments.
 #[tactic(auto, using(crate::proofs::Pieces::pieces_cut))]
 fn are_segments(text: &[u8]) -> bool
-    ensures exact { result ≡ list_all (is_some_of is_segment_char) (pieces slash text.now) }
+    ensures exact { result ≡ list_all (is_one_or_more is_segment_char) (pieces slash text.now) }
 {
     let mut rest = text;
     'segments: loop {
@@ -150,9 +150,9 @@ fn are_segments(text: &[u8]) -> bool
 fn strip_scheme(text: &[u8]) -> Option<&[u8]>
     ensures exact { option_map (λ x. x.now) result ≡ strip_scheme text.now }
 {
-    match after(text, b"http://") {
+    match strip_front(text, b"http://") {
         Some(rest) => Some(rest),
-        None => after(text, b"https://"),
+        None => strip_front(text, b"https://"),
     }
 }
 
@@ -172,10 +172,10 @@ fn are_authority_and_segments(rest: &[u8]) -> bool
 }
 
 // A text with a character for each octet.
-fn letters(alloc: Global, octets: &[u8]) -> Result<Text, AllocError>
+fn ascii_text(alloc: Global, octets: &[u8]) -> Result<Text, AllocError>
     ensures ok { IfOk result (λ text. text ≡ octets.now) }
 {
-    let mut text = no_text(alloc);
+    let mut text = empty_text(alloc);
     for &b in octets {
         text.push(b as char)?;
     }
@@ -190,9 +190,9 @@ fn make_root(alloc: Global, text: &[u8], rest: &[u8]) -> Result<Root, AllocError
     ensures ok { IfOk result (λ made. made ≡ text.now) }
 {
     let (authority, path) = cut_before(rest, b'/');
-    let text = letters(alloc, text)?;
-    let authority = letters(alloc, authority)?;
-    let path = letters(alloc, path)?;
+    let text = ascii_text(alloc, text)?;
+    let authority = ascii_text(alloc, authority)?;
+    let path = ascii_text(alloc, path)?;
     Ok(Root {
         text,
         authority,

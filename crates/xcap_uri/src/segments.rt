@@ -2,9 +2,9 @@
 //! 6).
 ghost use Rattle.std.specs.Prelude.{◌≡◌, [], option_map, unwrap_or};
 ghost use Rattle.std.specs.Str.{bytes_eq};
-ghost use Rattle.xcap_uri.specs.inner.Results.{Gives};
+ghost use Rattle.xcap_uri.specs.inner.Results.{GivesStated};
 ghost use Rattle.xcap_uri.specs.readers.Targets.{parsed_path};
-ghost use Rattle.doc_names.specs.Ids.{separator};
+ghost use Rattle.doc_names.specs.DocIds.{selector_separator};
 
 use crate::delimiters::cut;
 use crate::escapes::read_part;
@@ -14,7 +14,7 @@ use xml_names::{ReadError, Text};
 
 // Whether it is the separator `~~`, after which comes the node selector.
 fn is_separator(segment: &Text) -> bool
-    ensures exact { result ≡ bytes_eq segment.now separator }
+    ensures exact { result ≡ bytes_eq segment.now selector_separator }
 {
     segment.is("~~")
 }
@@ -39,7 +39,7 @@ pub fn read_path(
     alloc: Global,
     path: &[u8],
 ) -> Result<(Vec<Text>, Option<&[u8]>), ReadError<UriFault>>
-    ensures reads_rule { Gives (λ x. (x.0.items, option_map (λ y. y.now) x.1)) result
+    ensures reads_rule { GivesStated (λ x. (x.0.items, option_map (λ y. y.now) x.1)) result
         (parsed_path path.now) }
 {
     let mut segments = Vec::new(alloc);

@@ -2,22 +2,23 @@
 //! under `~feed` and `~flat`, which are this server's own, changes and the flat list of a service.
 ghost use Rattle.std.specs.Prelude.{◌≡◌};
 ghost use Rattle.std.specs.List.{list_any};
-ghost use Rattle.xcap_uri.specs.Shapes.{doc_of, tag_spelled};
-ghost use Rattle.xcap_uri.specs.readers.Shapes.{auid_of, document_shape, document_feed};
-ghost use Rattle.xcap_uri.specs.readers.Shapes.{either_feed};
-ghost use Rattle.xcap_uri.specs.readers.Shapes.{element_feed, feed_shape, flat_shape, in_home};
-ghost use Rattle.xcap_uri.specs.readers.Shapes.{in_usage, is_empty, mode_of, shape_of_segments};
-ghost use Rattle.xcap_uri.specs.readers.Shapes.{of_usage};
-ghost use Rattle.xcap_uri.specs.readers.Shapes.{of_user, shape_of, stored_auid_of, stored_doc};
+ghost use Rattle.xcap_uri.specs.Shapes.{doc_of, parse_tag};
+ghost use Rattle.xcap_uri.specs.readers.Shapes.{auid_of, document_shape, document_feed_shape};
+ghost use Rattle.xcap_uri.specs.readers.Shapes.{feed_shape_by_mode};
+ghost use Rattle.xcap_uri.specs.readers.Shapes.{element_feed_shape, feed_shape, flat_shape};
+ghost use Rattle.xcap_uri.specs.readers.Shapes.{home_shape};
+ghost use Rattle.xcap_uri.specs.readers.Shapes.{usage_shape, is_empty, mode_of, shape_of_segments};
+ghost use Rattle.xcap_uri.specs.readers.Shapes.{usage_shape_if_known};
+ghost use Rattle.xcap_uri.specs.readers.Shapes.{user_shape, shape_of, stored_auid_of, stored_doc};
 
 use crate::fault::UriFault;
-use crate::numerals::numeral;
+use crate::numerals::parse_numeral;
 use crate::target::Mode;
 use doc_names::{Auid, DocId, Home};
 use std::alloc::Global;
 use std::mem;
 use xml_names::{ReadError, Text};
-use xml_tokens::no_text;
+use xml_tokens::empty_text;
 
 /// What the segments of an address name. The variants are those of `Target`, with the selector as
 /// a text that isn't parsed yet.
@@ -84,16 +85,16 @@ fn mode_of(name: &Text) -> Option<Mode>
 
 // The number of an etag.
 fn tag_of(text: &Text) -> Option<u64>
-    ensures exact { result ≡ tag_spelled text.now }
+    ensures exact { result ≡ parse_tag text.now }
 {
-    numeral(text.as_str().as_bytes())
+    parse_numeral(text.as_str().as_bytes())
 }
 
 // Takes the text of a segment, and leaves it empty.
 fn take_text(alloc: Global, segment: &mut Text) -> Text
     ensures exact { result ≡ segment.old }
 {
-    mem::replace(segment, no_text(alloc))
+    mem::replace(segment, empty_text(alloc))
 }
 
 // A document, or with a selector a node of it.
@@ -112,14 +113,14 @@ fn document_shape(doc: DocId, selector: Option<Text>) -> Result<Shape, ReadError
 }
 
 // What is named after a home.
-fn in_home(
+fn home_shape(
     alloc: Global,
     auid: Auid,
     home: Home,
     rest: &mut [Text],
     selector: Option<Text>,
 ) -> Result<Shape, ReadError<UriFault>>
-    ensures exact { result ≡ in_home auid home rest.old selector }
+    ensures exact { result ≡ home_shape auid home rest.old selector }
 {
     match rest {
         [] => Err(ReadError::Fault(UriFault::BadShape)),
@@ -132,40 +133,40 @@ fn in_home(
 }
 
 // What is named after `users`.
-fn of_user(
+fn user_shape(
     alloc: Global,
     auid: Auid,
     rest: &mut [Text],
     selector: Option<Text>,
 ) -> Result<Shape, ReadError<UriFault>>
-    ensures exact { result ≡ of_user auid rest.old selector }
+    ensures exact { result ≡ user_shape auid rest.old selector }
 {
     match rest.split_first_mut() {
         None => Err(ReadError::Fault(UriFault::BadShape)),
         Some((xui, rest)) => {
             let xui = take_text(alloc, xui);
-            in_home(alloc, auid, Home::User(xui), rest, selector)
+            home_shape(alloc, auid, Home::User(xui), rest, selector)
         }
     }
 }
 
 // What is named after an AUID.
-fn in_usage(
+fn usage_shape(
     alloc: Global,
     auid: Auid,
     rest: &mut [Text],
     selector: Option<Text>,
 ) -> Result<Shape, ReadError<UriFault>>
-    ensures exact { result ≡ in_usage auid rest.old selector }
+    ensures exact { result ≡ usage_shape auid rest.old selector }
 {
     match rest.split_first_mut() {
         None => Err(ReadError::Fault(UriFault::BadShape)),
         Some((tree, rest)) => {
             if tree.is("global") {
-                return in_home(alloc, auid, Home::Global, rest, selector);
+                return home_shape(alloc, auid, Home::Global, rest, selector);
             }
             if tree.is("users") {
-                return of_user(alloc, auid, rest, selector);
+                return user_shape(alloc, auid, rest, selector);
             }
             Err(ReadError::Fault(UriFault::BadShape))
         }
@@ -196,8 +197,12 @@ fn stored_doc(
 }
 
 // The feed of an element, which needs a selector.
-fn element_feed(tag: u64, doc: DocId, selector: Option<Text>) -> Result<Shape, ReadError<UriFault>>
-    ensures exact { result ≡ element_feed tag doc selector }
+fn element_feed_shape(
+    tag: u64,
+    doc: DocId,
+    selector: Option<Text>,
+) -> Result<Shape, ReadError<UriFault>>
+    ensures exact { result ≡ element_feed_shape tag doc selector }
 {
     match selector {
         None => Err(ReadError::Fault(UriFault::BadShape)),
@@ -211,13 +216,13 @@ fn element_feed(tag: u64, doc: DocId, selector: Option<Text>) -> Result<Shape, R
 }
 
 // The feed of a document, which needs a mode and no selector.
-fn document_feed(
+fn document_feed_shape(
     mode: Option<Mode>,
     tag: u64,
     doc: DocId,
     selector: Option<Text>,
 ) -> Result<Shape, ReadError<UriFault>>
-    ensures exact { result ≡ document_feed mode tag doc selector }
+    ensures exact { result ≡ document_feed_shape mode tag doc selector }
 {
     match (mode, selector) {
         (Some(mode), None) => Ok(Shape::Feed(mode, tag, doc)),
@@ -226,13 +231,13 @@ fn document_feed(
 }
 
 // The feed of a document or of an element.
-fn either_feed(
+fn feed_shape_by_mode(
     mode: &Text,
     tag: Option<u64>,
     doc: Option<DocId>,
     selector: Option<Text>,
 ) -> Result<Shape, ReadError<UriFault>>
-    ensures exact { result ≡ either_feed mode.now tag doc selector }
+    ensures exact { result ≡ feed_shape_by_mode mode.now tag doc selector }
 {
     let Some(tag) = tag else {
         return Err(ReadError::Fault(UriFault::BadShape));
@@ -241,9 +246,9 @@ fn either_feed(
         return Err(ReadError::Fault(UriFault::BadShape));
     };
     if mode.is("element") {
-        return element_feed(tag, doc, selector);
+        return element_feed_shape(tag, doc, selector);
     }
-    document_feed(mode_of(mode), tag, doc, selector)
+    document_feed_shape(mode_of(mode), tag, doc, selector)
 }
 
 // What is named after `~feed`.
@@ -272,14 +277,14 @@ fn feed_shape(
     match rest {
         [name] => {
             let doc = stored_doc(alloc, auid, tree, xui, name);
-            either_feed(mode, tag_of(tag), doc, selector)
+            feed_shape_by_mode(mode, tag_of(tag), doc, selector)
         }
         _ => Err(ReadError::Fault(UriFault::BadShape)),
     }
 }
 
 // The flat list of a service of this document.
-fn flat_list(alloc: Global, xui: &mut Text, name: &mut Text, service: &mut Text) -> Shape
+fn flat_list_shape(alloc: Global, xui: &mut Text, name: &mut Text, service: &mut Text) -> Shape
     ensures exact { result
         ≡ Shape.Flat (doc_of Auid.RlsServices (Home.User xui.old) name.old) service.old }
 {
@@ -306,23 +311,23 @@ fn flat_shape(
         return Err(ReadError::Fault(UriFault::BadShape));
     };
     match (rest, selector) {
-        ([service], None) => Ok(flat_list(alloc, xui, name, service)),
+        ([service], None) => Ok(flat_list_shape(alloc, xui, name, service)),
         _ => Err(ReadError::Fault(UriFault::BadShape)),
     }
 }
 
 // What is named after an AUID, if it is one.
-fn of_usage(
+fn usage_shape_if_known(
     alloc: Global,
     auid: Option<Auid>,
     rest: &mut [Text],
     selector: Option<Text>,
 ) -> Result<Shape, ReadError<UriFault>>
-    ensures exact { result ≡ of_usage auid rest.old selector }
+    ensures exact { result ≡ usage_shape_if_known auid rest.old selector }
 {
     match auid {
         None => Err(ReadError::Fault(UriFault::UnknownAuid)),
-        Some(auid) => in_usage(alloc, auid, rest, selector),
+        Some(auid) => usage_shape(alloc, auid, rest, selector),
     }
 }
 
@@ -343,7 +348,7 @@ fn shape_of_segments(
             if first.is("~flat") {
                 return flat_shape(alloc, rest, selector);
             }
-            of_usage(alloc, auid_of(first), rest, selector)
+            usage_shape_if_known(alloc, auid_of(first), rest, selector)
         }
     }
 }
@@ -356,7 +361,7 @@ fn is_empty(segment: &Text) -> bool
 }
 
 // Whether one of the segments is empty.
-fn has_empty(segments: &[Text]) -> bool
+fn has_empty_segment(segments: &[Text]) -> bool
     ensures exact { result ≡ list_any is_empty segments.now }
 {
     segments.iter().any(|segment| is_empty(segment))
@@ -375,7 +380,7 @@ pub fn shape_of(
 ) -> Result<Shape, ReadError<UriFault>>
     ensures exact { result ≡ shape_of segments.old selector }
 {
-    if has_empty(segments) {
+    if has_empty_segment(segments) {
         return Err(ReadError::Fault(UriFault::BadShape));
     }
     shape_of_segments(alloc, segments, selector)

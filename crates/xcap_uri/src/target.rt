@@ -1,27 +1,28 @@
 //! Request targets (RFC 4825, section 6): what the address in a request means under the root.
 ghost use Rattle.std.specs.Prelude.{◌≡◌, ◌++◌, None, Err, option_map, IfOk, OnOk, string_bytes};
-ghost use Rattle.doc_names.specs.Escapes.{escaped, is_visible};
+ghost use Rattle.doc_names.specs.PercentEscapes.{escape_octets, is_visible};
 ghost use Rattle.xcap_uri.specs.Roots.{path_of};
-ghost use Rattle.xcap_uri.specs.inner.Results.{StatedOr};
-ghost use Rattle.xml_names.specs.Memory.{Answered};
-ghost use Rattle.xcap_uri.specs.Targets.{IsReadableTarget, TargetResult, raw_text, rest_under};
-ghost use Rattle.xcap_uri.specs.Targets.{under_root, with_query};
-ghost use Rattle.xcap_uri.specs.readers.Targets.{about_element, parsed_part, parsed_rest};
+ghost use Rattle.xcap_uri.specs.inner.Results.{IsStatedOr};
+ghost use Rattle.xml_names.specs.ReadErrors.{ResultSatisfies};
+ghost use Rattle.xcap_uri.specs.Targets.{IsReadableTarget, IsTargetResult, raw_text, rest_under};
+ghost use Rattle.xcap_uri.specs.Targets.{rest_under_root, with_query};
+ghost use Rattle.xcap_uri.specs.readers.Targets.{require_element, parsed_target_selector};
+ghost use Rattle.xcap_uri.specs.readers.Targets.{parsed_rest};
 ghost use Rattle.xcap_uri.specs.readers.Targets.{target_of};
 ghost use Rattle.xcap_uri.specs.readers.Targets.{parsed_target};
 
-use crate::delimiters::{after, cut};
+use crate::delimiters::{cut, strip_front};
 use crate::escapes::read_optional_part;
 use crate::fault::{UriFault, uri_error};
 use crate::query::read_query;
 use crate::root::Root;
 use crate::segments::read_path;
 use crate::shape::{Shape, shape_of};
-use doc_names::{Auid, DocId, Home, push_visible};
+use doc_names::{Auid, DocId, Home, push_escaped_octets};
 use node_select::{Bindings, End, Selector, read_selector};
 use std::alloc::{AllocError, Global};
 use xml_names::{ReadError, Text};
-use xml_tokens::no_text;
+use xml_tokens::empty_text;
 
 /// The diff processing of a feed (RFC 5875, section 4.3).
 #[derive(Clone, Copy, PartialEq, Eq)]
@@ -62,11 +63,11 @@ pub enum Target {
 }
 
 // What comes after `front` and a slash, if the target begins with them.
-fn under<'a>(target: &'a [u8], front: &[u8]) -> Option<&'a [u8]>
+fn strip_front_and_slash<'a>(target: &'a [u8], front: &[u8]) -> Option<&'a [u8]>
     ensures exact { option_map (λ x. x.now) result ≡ rest_under front.now target.now }
 {
-    let rest = after(target, front)?;
-    after(rest, b"/")
+    let rest = strip_front(target, front)?;
+    strip_front(rest, b"/")
 }
 
 // The octets of the root's text, and of its path.
@@ -83,23 +84,24 @@ fn path_octets(root: &Root) -> &[u8]
 }
 
 // What comes after the root, or its path, and a slash.
-fn under_root<'a>(root: &Root, target: &'a [u8]) -> Option<&'a [u8]>
-    ensures exact { option_map (λ x. x.now) result ≡ under_root root.now target.now }
+fn rest_under_root<'a>(root: &Root, target: &'a [u8]) -> Option<&'a [u8]>
+    ensures exact { option_map (λ x. x.now) result ≡ rest_under_root root.now target.now }
 {
-    match under(target, text_octets(root)) {
+    match strip_front_and_slash(target, text_octets(root)) {
         Some(rest) => Some(rest),
-        None => under(target, path_octets(root)),
+        None => strip_front_and_slash(target, path_octets(root)),
     }
 }
 
 // The selector that a text spells in a document of this AUID.
-fn part(
+fn read_target_selector(
     alloc: Global,
     bindings: &Bindings,
     auid: Auid,
     text: &Text,
 ) -> Result<Selector, ReadError<UriFault>>
-    ensures exact { StatedOr ReadError.NoMemory (parsed_part bindings.now auid text.now) result }
+    ensures exact { IsStatedOr ReadError.NoMemory
+        (parsed_target_selector bindings.now auid text.now) result }
 {
     match read_selector(alloc, text.as_str(), bindings, auid.namespace()) {
         Ok(selector) => Ok(selector),
@@ -108,8 +110,8 @@ fn part(
 }
 
 // The selector, if it selects an element.
-fn about_element(selector: Selector) -> Result<Selector, ReadError<UriFault>>
-    ensures exact { result ≡ about_element selector }
+fn require_element(selector: Selector) -> Result<Selector, ReadError<UriFault>>
+    ensures exact { result ≡ require_element selector }
 {
     match &selector.end {
         End::Element => Ok(selector),
@@ -121,15 +123,15 @@ fn about_element(selector: Selector) -> Result<Selector, ReadError<UriFault>>
 fn push_raw(line: &mut String, selector: &[u8], query: Option<&[u8]>) -> Result<(), AllocError>
     ensures appended { OnOk result
         (string_bytes line.new
-        ≡ string_bytes line.old ++ escaped is_visible
+        ≡ string_bytes line.old ++ escape_octets is_visible
         (with_query selector.now (option_map (λ x. x.now) query.entry))) }
 {
-    push_visible(line, selector)?;
+    push_escaped_octets(line, selector)?;
     match query {
         None => Ok(()),
         Some(query) => {
-            push_visible(line, b"?")?;
-            push_visible(line, query)
+            push_escaped_octets(line, b"?")?;
+            push_escaped_octets(line, query)
         }
     }
 }
@@ -145,7 +147,7 @@ fn raw_text(
         (option_map (λ x. x.now) query.entry)) }
 {
     match selector {
-        None => Ok(no_text(alloc)),
+        None => Ok(empty_text(alloc)),
         Some(selector) => {
             let mut line = String::new(alloc);
             push_raw(&mut line, selector, query)?;
@@ -163,7 +165,7 @@ fn target_of(
     raw_selector: Option<&[u8]>,
     raw_query: Option<&[u8]>,
 ) -> Result<Target, ReadError<UriFault>>
-    ensures target_of_shape { StatedOr ReadError.NoMemory
+    ensures target_of_shape { IsStatedOr ReadError.NoMemory
         (target_of shape bindings.now
         (raw_text (option_map (λ x. x.now) raw_selector.entry)
         (option_map (λ x. x.now) raw_query.entry))) result }
@@ -171,14 +173,14 @@ fn target_of(
     match shape {
         Shape::Document(doc) => Ok(Target::Document(doc)),
         Shape::Node(doc, text) => {
-            let selector = part(alloc, bindings, doc.auid, &text)?;
+            let selector = read_target_selector(alloc, bindings, doc.auid, &text)?;
             Ok(Target::Node(doc, selector))
         }
         Shape::Deep(auid, home) => Ok(Target::Deep(auid, home)),
         Shape::Feed(mode, tag, doc) => Ok(Target::Feed { mode, tag, doc }),
         Shape::ElementFeed(tag, doc, text) => {
-            let selector = part(alloc, bindings, doc.auid, &text)?;
-            let selector = about_element(selector)?;
+            let selector = read_target_selector(alloc, bindings, doc.auid, &text)?;
+            let selector = require_element(selector)?;
             let raw = raw_text(alloc, raw_selector, raw_query)?;
             Ok(Target::ElementFeed {
                 tag,
@@ -193,7 +195,7 @@ fn target_of(
 
 // Reads the target after the root.
 fn read_rest(alloc: Global, rest: &[u8]) -> Result<Target, ReadError<UriFault>>
-    ensures reads_below_root { StatedOr ReadError.NoMemory (parsed_rest rest.now) result }
+    ensures reads_below_root { IsStatedOr ReadError.NoMemory (parsed_rest rest.now) result }
 {
     let (path, raw_query) = cut(rest, b'?');
     let (mut segments, raw_selector) = read_path(alloc, path)?;
@@ -205,12 +207,13 @@ fn read_rest(alloc: Global, rest: &[u8]) -> Result<Target, ReadError<UriFault>>
 }
 
 // Reads the target, which may be outside the root.
-fn read(alloc: Global, root: &Root, target: &[u8]) -> Result<Target, ReadError<UriFault>>
-    ensures stated_answer { StatedOr ReadError.NoMemory (parsed_target root.now target.now) result }
-    ensures outside_is_refused { under_root root.now target.now ≡ None
+fn read_under_root(alloc: Global, root: &Root, target: &[u8]) -> Result<Target, ReadError<UriFault>>
+    ensures stated_answer { IsStatedOr ReadError.NoMemory
+        (parsed_target root.now target.now) result }
+    ensures outside_is_refused { rest_under_root root.now target.now ≡ None
         → result ≡ Err (ReadError.Fault UriFault.OutsideRoot) }
 {
-    match under_root(root, target) {
+    match rest_under_root(root, target) {
         None => Err(ReadError::Fault(UriFault::OutsideRoot)),
         Some(rest) => read_rest(alloc, rest),
     }
@@ -223,10 +226,10 @@ fn read(alloc: Global, root: &Root, target: &[u8]) -> Result<Target, ReadError<U
 /// The first fault in the order that `UriFault` gives, exactly where there is one; `NoMemory` when
 /// out of memory, never where the target is outside the root.
 pub fn read_target(alloc: Global, root: &Root, target: &[u8]) -> Result<Target, ReadError<UriFault>>
-    ensures rules_answer { Answered (TargetResult root.now target.now) result }
-    ensures outside_without_memory { under_root root.now target.now ≡ None
+    ensures rules_answer { ResultSatisfies (IsTargetResult root.now target.now) result }
+    ensures outside_without_memory { rest_under_root root.now target.now ≡ None
         → result ≡ Err (ReadError.Fault UriFault.OutsideRoot) }
     ensures readable_ids { IfOk result IsReadableTarget }
 {
-    read(alloc, root, target)
+    read_under_root(alloc, root, target)
 }

@@ -16,7 +16,7 @@ use xcap_io::{StdSink, StdSource, TcpPeer, TcpPort};
 // The words of the command line, without the program's name. A word that isn't UTF-8 spells no
 // command, so there are no words then. None when out of memory for them, which is the only other
 // reason for `args` to fail.
-fn words_of<R: Env + Alloc>(rt: &R) -> Option<Vec<String<R::A>, R::A>> {
+fn command_line_words<R: Env + Alloc>(rt: &R) -> Option<Vec<String<R::A>, R::A>> {
     let mut words = Vec::new(rt.alloc());
     match env::args(rt) {
         Ok(args) => {
@@ -34,7 +34,7 @@ fn main(rt: HostRuntime) -> ExitCode {
     let alloc = rt.alloc();
     let status = start(
         alloc,
-        words_of(&rt),
+        command_line_words(&rt),
         &mut TcpPort::new(&rt),
         &mut TcpPeer::new(&rt),
         &mut StdSource::new(rt.stdin()),

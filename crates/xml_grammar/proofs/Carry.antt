@@ -3,12 +3,12 @@
 use Rattle.std.proofs.Common.{◌≡◌, ℕ, ◌-◌, Bool, true, false, cond, List, [], ◌++◌, length, Result, Ok, Err, ◌⊎◌, inl, inr, ⊎_elim, refl, ap, subst, ◌∙◌, arith}
 use Rattle.std.proofs.lemmas.List.{length-append}
 use Rattle.xml_grammar.specs.Rules.{Event, Begin, Mark, Rule, sequence, either, map_rule, with_length}
-use Rattle.xml_grammar.specs.TextReading.{Stop, Syntax, Faulty, Reader, ◌>>=◌, read_valued}
-use Rattle.xml_grammar.specs.readers.Functions.{read_either, read_with_length}
-use Rattle.xml_grammar.specs.Answers.{Faults}
+use Rattle.xml_grammar.specs.TextReading.{Stop, Syntax, Faulty, Reader, ◌>>=◌, read_mapped}
+use Rattle.xml_grammar.specs.readers.RuleReaders.{read_either, read_with_length}
+use Rattle.xml_grammar.specs.ParseResults.{FaultRanking}
 use Rattle.xml_grammar.proofs.Exact.{Rest, ahead, sequence_meets, sequence_whole, Passed, IsRead, IsStopped, IsAtFault, Outcome, Exact, behind_passed}
 
-module _ {Kind : Type 0} (faults : Faults Kind) where
+module _ {Kind : Type 0} (faults : FaultRanking Kind) where
   -- The event doesn't matter: the beginning is empty, the mark no fault.
   abbrev pub Idle : Event Kind → List ℕ → Type 0
   Idle Begin v = v ≡ []
@@ -99,7 +99,7 @@ module _ {Kind : Type 0} where
     sized_meets e v (inl h) = inl h
     sized_meets e v (inr h) = inr (h.0.0, record { front = h.1.front; back = h.1.back; joined = h.1.joined; front_is = h.1.front_is.0; back_is = h.1.back_is })
 
-module _ {Kind : Type 0} (faults : Faults Kind) where
+module _ {Kind : Type 0} (faults : FaultRanking Kind) where
   carries_valued : {A B : Type 0} (f : A → B) (r : Rule Kind A) (K : B → Rest Kind) (text : List ℕ) → Carries faults text r (λ a. K (f a)) (map_rule f r) K (λ _ a. f a)
   carries_valued {A} {B} f r K text = record {
     spells = λ u a h. (a, h, refl);
@@ -131,8 +131,8 @@ module _ {Kind : Type 0} (faults : Faults Kind) where
   sized_outcome r K text (Err (Syntax left)) h = carried_stopped faults (carries_sized r K text) left h
   sized_outcome r K text (Err (Faulty kind left)) h = carried_at_fault faults (carries_sized r K text) kind left h
 
-module _ {Kind : Type 0} {faults : Faults Kind} where
-  pub exact_valued : {A B : Type 0} {r : Rule Kind A} {K : B → Rest Kind} {p : Reader Kind A} (f : A → B) → Exact faults r (λ a. K (f a)) p → Exact faults (map_rule f r) K (read_valued f p)
+module _ {Kind : Type 0} {faults : FaultRanking Kind} where
+  pub exact_valued : {A B : Type 0} {r : Rule Kind A} {K : B → Rest Kind} {p : Reader Kind A} (f : A → B) → Exact faults r (λ a. K (f a)) p → Exact faults (map_rule f r) K (read_mapped f p)
   exact_valued {A} {B} {r} {K} {p} f h = record { by = λ text. valued_outcome faults f r K text (p text) (h.by text) }
 
   pub exact_sized : {A : Type 0} {r : Rule Kind A} {K : A → Rest Kind} {p : Reader Kind A} → Exact faults r K p → Exact faults (with_length r) (λ x. K x.0) (read_with_length p)
@@ -156,7 +156,7 @@ module _ {Kind : Type 0} where
         (λ l. inr (h.0, record { front = h.1.front; back = h.1.back; joined = h.1.joined; front_is = l; back_is = h.1.back_is }))
         h.1.front_is
 
-module _ {Kind : Type 0} (faults : Faults Kind) where
+module _ {Kind : Type 0} (faults : FaultRanking Kind) where
   module _ {A : Type 0} (r s : Rule Kind A) (K : A → Rest Kind) (text : List ℕ) where
     carries_first : Covers faults text (ahead s K) (ahead r K) → Carries faults text r K (either r s) K (same faults)
     carries_first c = record {
@@ -192,7 +192,7 @@ module _ {Kind : Type 0} (faults : Faults Kind) where
     either_by true one other h i c d = first_outcome one (c refl) h
     either_by false one other h i c d = second_outcome other (d refl) i
 
-module _ {Kind : Type 0} {faults : Faults Kind} where
+module _ {Kind : Type 0} {faults : FaultRanking Kind} where
   -- A choice is read exactly where the test shows which member covers the other.
   pub exact_either : {A : Type 0} {r s : Rule Kind A} {K : A → Rest Kind} {p q : Reader Kind A} (test : List ℕ → Bool) → Exact faults r K p → Exact faults s K q → ((text : List ℕ) → test text ≡ true → Covers faults text (ahead s K) (ahead r K)) → ((text : List ℕ) → test text ≡ false → Covers faults text (ahead r K) (ahead s K)) → Exact faults (either r s) K (read_either test p q)
   exact_either {A} {r} {s} {K} {p} {q} test hp hq c d = record { by = λ text. either_by faults r s K text (test text) (p text) (q text) (hp.by text) (hq.by text) (c text) (d text) }

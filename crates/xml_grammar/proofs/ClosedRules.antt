@@ -2,10 +2,10 @@
 -- whatever follows.
 use Rattle.std.proofs.Common.{◌≡◌, ℕ, ◌<◌, Bool, true, false, cond, List, [], ◌∷◌, ◌++◌, length, Result, Ok, Err, ◌⊎◌, inl, inr, ⊎_elim, refl, ap, subst, ◌∙◌, arith}
 use Rattle.std.proofs.lemmas.List.{length-append, append-nil}
-use Rattle.xml_grammar.specs.Rules.{Event, Begin, Mark, Rule, only, atomic}
-use Rattle.xml_grammar.specs.TextReading.{Stop, Syntax, Faulty, Reader, ◌>>=◌, head_is}
-use Rattle.xml_grammar.specs.readers.Functions.{read_only, whole_or_stop, read_atomic}
-use Rattle.xml_grammar.specs.Answers.{Faults}
+use Rattle.xml_grammar.specs.Rules.{Event, Begin, Mark, Rule, filter_rule, atomic}
+use Rattle.xml_grammar.specs.TextReading.{Stop, Syntax, Faulty, Reader, ◌>>=◌, first_char_is}
+use Rattle.xml_grammar.specs.readers.RuleReaders.{read_filtered, stop_at_start, read_atomic}
+use Rattle.xml_grammar.specs.ParseResults.{FaultRanking}
 use Rattle.xml_grammar.proofs.Exact.{Rest, ahead, regroup, Passed, Behind, Later, IsRead, IsStopped, IsAtFault, Outcome, Exact}
 use Rattle.xml_grammar.proofs.Heads.{Heads, Not}
 use Rattle.xml_grammar.proofs.Laws.{Lawful, Quiet, Inside}
@@ -17,7 +17,7 @@ module _ {Kind : Type 0} where
 
   -- Anything may follow that doesn't begin with a character of the class.
   abbrev pub unless : (ℕ → Bool) → Rest Kind
-  unless q = record { Meets = λ e v. ⊥; Whole = λ v. head_is q v ≡ false }
+  unless q = record { Meets = λ e v. ⊥; Whole = λ v. first_char_is q v ≡ false }
 
   pub heads_unless : {q : ℕ → Bool} → Heads (Not q) (unless q)
   heads_unless = record { meets = λ e c x m. absurd m; whole = λ c x m. m; none = λ k b m. m }
@@ -27,7 +27,7 @@ module _ {Kind : Type 0} where
 
 -- # Closed rules
 
-module _ {Kind A : Type 0} (faults : Faults Kind) (r : Rule Kind A) (K : A → Rest Kind) (inside : (a : A) → Inside (K a)) where
+module _ {Kind A : Type 0} (faults : FaultRanking Kind) (r : Rule Kind A) (K : A → Rest Kind) (inside : (a : A) → Inside (K a)) where
   closed_read : (text left : List ℕ) (a : A) → IsRead faults r (λ _. anything) text a left → IsRead faults r K text a left
   closed_read text left a h = record {
     used = h.used;
@@ -79,14 +79,14 @@ module _ {Kind A : Type 0} (faults : Faults Kind) (r : Rule Kind A) (K : A → R
   closed_outcome text (Err (Syntax left)) h = closed_stopped text left h
   closed_outcome text (Err (Faulty kind left)) h = closed_at_fault text left kind h
 
-module _ {Kind : Type 0} {faults : Faults Kind} where
+module _ {Kind : Type 0} {faults : FaultRanking Kind} where
   -- What is read exactly before anything is read exactly before whatever follows.
   pub exact_closed : {A : Type 0} {r : Rule Kind A} {K : A → Rest Kind} {p : Reader Kind A} → ((a : A) → Inside (K a)) → Exact faults r (λ _. anything) p → Exact faults r K p
   exact_closed {A} {r} {K} {p} inside h = record { by = λ text. closed_outcome faults r K inside text (p text) (h.by text) }
 
 -- # Whole or not at all
 
-module _ {Kind A : Type 0} (faults : Faults Kind) (r : Rule Kind A) (K : A → Rest Kind) (quiet : Quiet r) where
+module _ {Kind A : Type 0} (faults : FaultRanking Kind) (r : Rule Kind A) (K : A → Rest Kind) (quiet : Quiet r) where
   module _ (text left : List ℕ) (a : A) (h : IsRead faults r (λ _. anything) text a left) where
     atomic_settled : (e : Event Kind) (v w : List ℕ) → text ≡ v ++ w → (ahead (atomic r) K).Meets e v → Passed faults e v h.used ⊎ Later faults (K a) e v h.used
     atomic_settled Begin v w j (inl (inl m)) = inl (omega (arith, ap length m))
@@ -109,14 +109,14 @@ module _ {Kind A : Type 0} (faults : Faults Kind) (r : Rule Kind A) (K : A → R
     atomic_stopped : IsStopped faults (atomic r) K text text
     atomic_stopped = record { used = []; joined = refl; begun = inl refl; settled = atomic_none; none = λ v w b j s _. none v w b j s }
 
-  atomic_outcome : (text : List ℕ) (out : Result (A × List ℕ) (Stop Kind)) → Outcome faults r (λ _. anything) text out → Outcome faults (atomic r) K text (whole_or_stop text out)
+  atomic_outcome : (text : List ℕ) (out : Result (A × List ℕ) (Stop Kind)) → Outcome faults r (λ _. anything) text out → Outcome faults (atomic r) K text (stop_at_start text out)
   atomic_outcome text (Ok x) h = atomic_read text x.1 x.0 h
   atomic_outcome text (Err (Syntax left)) h = atomic_stopped text (λ v w b j s. h.none v w b j s tt)
   atomic_outcome text (Err (Faulty kind left)) h = absurd (quiet.no_mark kind (length h.seen) (h.used ++ h.seen) h.met)
 
 -- # Values that pass
 
-module _ {Kind A : Type 0} (faults : Faults Kind) (t : A → Bool) (r : Rule Kind A) (K : A → Rest Kind) (q : ℕ → Bool) (lawful : Lawful r) (heads : (a : A) → Heads (Not q) (K a)) where
+module _ {Kind A : Type 0} (faults : FaultRanking Kind) (t : A → Bool) (r : Rule Kind A) (K : A → Rest Kind) (q : ℕ → Bool) (lawful : Lawful r) (heads : (a : A) → Heads (Not q) (K a)) where
   module _ (text left : List ℕ) (a : A) (h : IsRead faults r (λ _. unless q) text a left) where
     -- a text that ends where the class doesn't continue is the one that was read
     at_end : (v w : List ℕ) (b : A) → text ≡ v ++ w → r.Spells v b → (K b).Whole w → (v ≡ h.used) × (b ≡ a)
@@ -131,7 +131,7 @@ module _ {Kind A : Type 0} (faults : Faults Kind) (t : A → Bool) (r : Rule Kin
     what_follows (Mark k d) v w front [] b j s sp m = absurd ((heads b).none k d m)
     what_follows e v w front (c ∷ x) b j s sp m = inr (h.unique front ((c ∷ x) ++ w) b (regroup w front (c ∷ x) j s) sp ((heads b).meets e c x m))
 
-    only_read : t a ≡ true → IsRead faults (only t r) K text a left
+    only_read : t a ≡ true → IsRead faults (filter_rule t r) K text a left
     only_read pass = record {
       used = h.used;
       joined = h.joined;
@@ -146,7 +146,7 @@ module _ {Kind A : Type 0} (faults : Faults Kind) (t : A → Bool) (r : Rule Kin
       unique = λ v w b j s k. at_end v w b j s.0 k;
     }
 
-    only_stopped : t a ≡ false → IsStopped faults (only t r) K text left
+    only_stopped : t a ≡ false → IsStopped faults (filter_rule t r) K text left
     only_stopped fail = record {
       used = h.used;
       joined = h.joined;
@@ -161,15 +161,15 @@ module _ {Kind A : Type 0} (faults : Faults Kind) (t : A → Bool) (r : Rule Kin
       none = λ v w b j s k. let o = at_end v w b j s.0 k in let yes = s.1 in let same : t b ≡ t a = ap t o.1 in absurd cc;
     }
 
-    only_by : (b : Bool) → t a ≡ b → Outcome faults (only t r) K text (cond b (Ok (a, left)) (Err (Syntax left)))
+    only_by : (b : Bool) → t a ≡ b → Outcome faults (filter_rule t r) K text (cond b (Ok (a, left)) (Err (Syntax left)))
     only_by true e = only_read e
     only_by false e = only_stopped e
 
-  fewer : (e : Event Kind) (v : List ℕ) → (ahead (only t r) K).Meets e v → (ahead r K).Meets e v
+  fewer : (e : Event Kind) (v : List ℕ) → (ahead (filter_rule t r) K).Meets e v → (ahead r K).Meets e v
   fewer e v (inl m) = inl m
   fewer e v (inr l) = inr (l.0, record { front = l.1.front; back = l.1.back; joined = l.1.joined; front_is = l.1.front_is.0; back_is = l.1.back_is })
 
-  only_outcome : (text : List ℕ) (out : Result (A × List ℕ) (Stop Kind)) → Outcome faults r (λ _. unless q) text out → Outcome faults r K text out → Outcome faults (only t r) K text (out >>= λ x. cond (t x.0) (Ok x) (Err (Syntax x.1)))
+  only_outcome : (text : List ℕ) (out : Result (A × List ℕ) (Stop Kind)) → Outcome faults r (λ _. unless q) text out → Outcome faults r K text out → Outcome faults (filter_rule t r) K text (out >>= λ x. cond (t x.0) (Ok x) (Err (Syntax x.1)))
   only_outcome text (Ok x) h g = only_by text x.1 x.0 h (t x.0) refl
   only_outcome text (Err (Syntax left)) h g = record {
     used = g.used;
@@ -190,11 +190,11 @@ module _ {Kind A : Type 0} (faults : Faults Kind) (t : A → Bool) (r : Rule Kin
     beyond = λ v w b j s k. g.beyond v w b j s.0 k;
   }
 
-module _ {Kind : Type 0} {faults : Faults Kind} where
+module _ {Kind : Type 0} {faults : FaultRanking Kind} where
   pub exact_atomic : {A : Type 0} {r : Rule Kind A} {K : A → Rest Kind} {p : Reader Kind A} → Quiet r → Exact faults r (λ _. anything) p → Exact faults (atomic r) K (read_atomic p)
   exact_atomic {A} {r} {K} {p} quiet h = record { by = λ text. atomic_outcome faults r K quiet text (p text) (h.by text) }
 
   -- The rule is read exactly wherever the class doesn't continue, and before what follows, which
   -- doesn't begin with a character of the class.
-  pub exact_only : {A : Type 0} {r : Rule Kind A} {K : A → Rest Kind} {p : Reader Kind A} (t : A → Bool) (q : ℕ → Bool) → Lawful r → ((a : A) → Heads (Not q) (K a)) → Exact faults r (λ _. unless q) p → Exact faults r K p → Exact faults (only t r) K (read_only t p)
+  pub exact_only : {A : Type 0} {r : Rule Kind A} {K : A → Rest Kind} {p : Reader Kind A} (t : A → Bool) (q : ℕ → Bool) → Lawful r → ((a : A) → Heads (Not q) (K a)) → Exact faults r (λ _. unless q) p → Exact faults r K p → Exact faults (filter_rule t r) K (read_filtered t p)
   exact_only {A} {r} {K} {p} t q lawful heads h g = record { by = λ text. only_outcome faults t r K q lawful heads text (p text) (h.by text) (g.by text) }

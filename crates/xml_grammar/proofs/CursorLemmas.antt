@@ -5,7 +5,7 @@ use Rattle.std.specs.Str.{IsAscii, IsCharBoundary}
 use Rattle.std.proofs.lemmas.List.{drop_at, length-take, take_min}
 use Rattle.std.proofs.lemmas.Str.{chars-nil, chars-append, chars-IsAscii, encodes-append, encodes-chars, IsUtf8-from_ascii, IsUtf8-take, IsCharBoundary-at_seam}
 use Rattle.std.proofs.lemmas.Str.Ascii.{IsAscii-nil, IsAscii-cons}
-use Rattle.xml_grammar.specs.readers.Ends.{EndsWith}
+use Rattle.xml_grammar.specs.readers.Suffixes.{EndsWith}
 
 ascii_one : (b : ℕ) → b < 128 → IsAscii (b ∷ [])
 ascii_one b low = IsAscii-cons b [] low IsAscii-nil

@@ -3,7 +3,7 @@ use Rattle.std.proofs.Common.{◌≡◌, ℕ, ◌+◌, ◌<◌, ◌≤◌, true,
 use Rattle.std.proofs.lemmas.List.{append_cancel_left, length-append}
 use Rattle.xml_grammar.specs.Rules.{Event, Begin, Mark, Rule, Split, sequence}
 use Rattle.xml_grammar.specs.TextReading.{Stop, Syntax, Faulty, Reader, ◌>>=◌, read_sequence}
-use Rattle.xml_grammar.specs.Answers.{Faults}
+use Rattle.xml_grammar.specs.ParseResults.{FaultRanking}
 
 -- What may follow a rule: its events, and whether the text may end that way.
 pub record Rest (Kind : Type 0) : Type 1 where
@@ -45,7 +45,7 @@ module _ {Kind : Type 0} where
       let f = h.1.front_is in
       (h.0.0, record { front = f.front; back = f.back ++ h.1.back; joined = regroup h.1.back f.front f.back h.1.joined f.joined; front_is = f.front_is; back_is = (h.0.1, record { front = f.back; back = h.1.back; joined = refl; front_is = f.back_is; back_is = h.1.back_is }) })
 
-module _ {Kind : Type 0} (faults : Faults Kind) where
+module _ {Kind : Type 0} (faults : FaultRanking Kind) where
   -- Where the prefix u was read, an event at the prefix v is over: a beginning is no longer, a
   -- mark no fault.
   abbrev pub Passed : Event Kind → List ℕ → List ℕ → Type 0
@@ -208,7 +208,7 @@ module _ {Kind : Type 0} (faults : Faults Kind) where
       beyond = λ v w b j sp k. omega (arith, h.beyond sp.front (sp.back ++ w) b.0 (regroup w sp.front sp.back j sp.joined) sp.front_is (first_whole v w b sp k), ap length sp.joined, length-append sp.front sp.back);
     }
 
-module _ {Kind : Type 0} {faults : Faults Kind} where
+module _ {Kind : Type 0} {faults : FaultRanking Kind} where
   -- A sequence is read exactly where its parts are, whatever they begin with.
   pub exact_sequence : {A B : Type 0} {r : Rule Kind A} {s : A → Rule Kind B} {K : A × B → Rest Kind} {p : Reader Kind A} {q : A → Reader Kind B} → Exact faults r (λ a. ahead (s a) (λ b. K (a, b))) p → ((a : A) → Exact faults (s a) (λ b. K (a, b)) (q a)) → Exact faults (sequence r s) K (read_sequence p q)
   exact_sequence {A} {B} {r} {s} {K} {p} {q} hp hq = record { by = λ text. sequence_outcome faults r s K q text (p text) (hp.by text) (λ x _. (hq x.0).by x.1) }

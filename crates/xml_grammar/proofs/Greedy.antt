@@ -5,16 +5,16 @@ use Rattle.std.specs.Prelude.{◌&&◌, nat_le}
 use Rattle.std.proofs.lemmas.Bool.Decides.{nat_tests}
 use Rattle.std.proofs.lemmas.List.{append_cancel_left, length-append, append-nil}
 use Rattle.xml_grammar.specs.Digits.{Digits}
-use Rattle.xml_grammar.specs.Rules.{Event, Begin, Mark, AllPass, run, Lacks, run_without, IsNumberSoFar, number_from, number}
-use Rattle.xml_grammar.specs.TextReading.{Stop, Syntax, Faulty, starts, front_of, after_front, read_run}
-use Rattle.xml_grammar.specs.readers.Functions.{all_but_last, front_without, after_without, read_run_without, number_end, read_digits, read_number}
-use Rattle.xml_grammar.specs.Answers.{Faults}
+use Rattle.xml_grammar.specs.Rules.{Event, Begin, Mark, AllPass, char_run, LacksWord, char_run_without, IsNumberSoFar, number_of_digits, number}
+use Rattle.xml_grammar.specs.TextReading.{Stop, Syntax, Faulty, starts_with_word, take_while, drop_while, read_run}
+use Rattle.xml_grammar.specs.readers.RuleReaders.{all_but_last, take_while_without, drop_while_without, read_run_without, number_end, read_digits, read_number}
+use Rattle.xml_grammar.specs.ParseResults.{FaultRanking}
 use Rattle.xml_grammar.proofs.Exact.{Rest, ahead, regroup, Passed, Later, IsRead, IsStopped, Outcome, Exact}
 use Rattle.xml_grammar.proofs.Leaves.{leaf}
 use Rattle.xml_grammar.proofs.Heads.{Heads, Not}
 use Rattle.xml_grammar.proofs.Fronts.{compare, pass_front, pass_back, starts_is, lacks_front, lacks_short, lacks_step, Ended, ended}
 
-module _ {Kind : Type 0} (faults : Faults Kind) where
+module _ {Kind : Type 0} (faults : FaultRanking Kind) where
   -- Each beginning is a prefix of what is consumed, which continues from there with characters of
   -- the class.
   module _ {A : Type 0} (S : List ℕ → A → Type 0) (P : List ℕ → Type 0) (p : ℕ → Bool) (K : A → Rest Kind) (h : (a : A) → Heads (Not p) (K a)) (text used left : List ℕ) (joined : text ≡ used ++ left) (whole : (v : List ℕ) (a : A) → S v a → P v) (front : (v w : List ℕ) → text ≡ v ++ w → P v → (others : List ℕ) × (used ≡ v ++ others) × AllPass p others) where
@@ -121,42 +121,42 @@ furthest_front {P} {p} {text} {used} {left} h closed pass v w j m = ⊎_elim
 -- # Runs
 
 module _ (p : ℕ → Bool) where
-  front_joined : (text : List ℕ) → text ≡ front_of p text ++ after_front p text
+  front_joined : (text : List ℕ) → text ≡ take_while p text ++ drop_while p text
   front_joined [] = refl
   front_joined (c ∷ cs) = by_head (p c) (front_joined cs)
     where
-      by_head : (b : Bool) → cs ≡ front_of p cs ++ after_front p cs → c ∷ cs ≡ cond b (c ∷ front_of p cs) [] ++ cond b (after_front p cs) (c ∷ cs)
+      by_head : (b : Bool) → cs ≡ take_while p cs ++ drop_while p cs → c ∷ cs ≡ cond b (c ∷ take_while p cs) [] ++ cond b (drop_while p cs) (c ∷ cs)
       by_head true e = ap (λ (z : List ℕ). c ∷ z) e
       by_head false e = refl
 
-  front_passes : (text : List ℕ) → AllPass p (front_of p text)
+  front_passes : (text : List ℕ) → AllPass p (take_while p text)
   front_passes [] = tt
   front_passes (c ∷ cs) = by_head (p c) refl (front_passes cs)
     where
-      by_head : (b : Bool) → p c ≡ b → AllPass p (front_of p cs) → AllPass p (cond b (c ∷ front_of p cs) [])
+      by_head : (b : Bool) → p c ≡ b → AllPass p (take_while p cs) → AllPass p (cond b (c ∷ take_while p cs) [])
       by_head true e h = (e, h)
       by_head false e h = tt
 
-  after_stops : (text : List ℕ) (c : ℕ) (more : List ℕ) → after_front p text ≡ c ∷ more → p c ≡ true → ⊥
+  after_stops : (text : List ℕ) (c : ℕ) (more : List ℕ) → drop_while p text ≡ c ∷ more → p c ≡ true → ⊥
   after_stops [] c more j t = absurd cc
   after_stops (d ∷ ds) c more j t = by_head (p d) refl j (λ k. after_stops ds c more k t)
     where
-      by_head : (b : Bool) → p d ≡ b → cond b (after_front p ds) (d ∷ ds) ≡ c ∷ more → (after_front p ds ≡ c ∷ more → ⊥) → ⊥
+      by_head : (b : Bool) → p d ≡ b → cond b (drop_while p ds) (d ∷ ds) ≡ c ∷ more → (drop_while p ds ≡ c ∷ more → ⊥) → ⊥
       by_head true e k f = f k
       by_head false e k f = let same : d ≡ c = cc in let g : p d ≡ p c = ap p same in absurd cc
 
-  run_furthest : (text : List ℕ) → Furthest (AllPass p) text (front_of p text) (after_front p text)
+  run_furthest : (text : List ℕ) → Furthest (AllPass p) text (take_while p text) (drop_while p text)
   run_furthest text = record {
     joined = front_joined text;
     begun = front_passes text;
-    stops = λ c more j h. after_stops text c more j (pass_back p (front_of p text) (c ∷ []) h).0;
+    stops = λ c more j h. after_stops text c more j (pass_back p (take_while p text) (c ∷ []) h).0;
   }
 
 -- # Runs without a word
 
 module _ (p : ℕ → Bool) (w : List ℕ) (end : Ended w) (inside : AllPass p w) where
   abbrev Fits : List ℕ → Type 0
-  Fits v = AllPass p v × Lacks w v
+  Fits v = AllPass p v × LacksWord w v
 
   fits_front : (u v : List ℕ) → Fits (u ++ v) → Fits u
   fits_front u v h = (pass_front p u v h.0, lacks_front w u v h.1)
@@ -177,28 +177,28 @@ module _ (p : ℕ → Bool) (w : List ℕ) (end : Ended w) (inside : AllPass p w
       dropped [] v = refl
       dropped (c ∷ u) v = dropped u v
 
-  without_step : (c : ℕ) (cs used left : List ℕ) → p c ≡ true → starts w (c ∷ cs) ≡ false → Furthest Fits cs used left → Furthest Fits (c ∷ cs) (c ∷ used) left
+  without_step : (c : ℕ) (cs used left : List ℕ) → p c ≡ true → starts_with_word w (c ∷ cs) ≡ false → Furthest Fits cs used left → Furthest Fits (c ∷ cs) (c ∷ used) left
   without_step c cs used left t s h = record {
     joined = ap (λ (z : List ℕ). c ∷ z) h.joined;
-    begun = ((t, h.begun.0), lacks_step w c used left (ap (λ (z : List ℕ). starts w (c ∷ z)) (sym h.joined) ∙ s) h.begun.1);
+    begun = ((t, h.begun.0), lacks_step w c used left (ap (λ (z : List ℕ). starts_with_word w (c ∷ z)) (sym h.joined) ∙ s) h.begun.1);
     stops = λ d more j f. h.stops d more j (f.0.1, λ u x e. f.1 (c ∷ u) x (ap (λ (z : List ℕ). c ∷ z) e));
   }
 
   some_word : 0 < length w
   some_word = omega (arith, end.shorter)
 
-  without_by : (c : ℕ) (cs : List ℕ) (at passes : Bool) → starts w (c ∷ cs) ≡ at → p c ≡ passes → Furthest Fits cs (front_without p w cs) (after_without p w cs) → Furthest Fits (c ∷ cs) (cond at (all_but_last w) (cond passes (c ∷ front_without p w cs) [])) (cond at (drop (length w - 1) (c ∷ cs)) (cond passes (after_without p w cs) (c ∷ cs)))
+  without_by : (c : ℕ) (cs : List ℕ) (at passes : Bool) → starts_with_word w (c ∷ cs) ≡ at → p c ≡ passes → Furthest Fits cs (take_while_without p w cs) (drop_while_without p w cs) → Furthest Fits (c ∷ cs) (cond at (all_but_last w) (cond passes (c ∷ take_while_without p w cs) [])) (cond at (drop (length w - 1) (c ∷ cs)) (cond passes (drop_while_without p w cs) (c ∷ cs)))
   without_by c cs true passes s e h = at_word (c ∷ cs) (drop (length w) (c ∷ cs)) (starts_is w (c ∷ cs) s)
-  without_by c cs false true s e h = without_step c cs (front_without p w cs) (after_without p w cs) e s h
+  without_by c cs false true s e h = without_step c cs (take_while_without p w cs) (drop_while_without p w cs) e s h
   without_by c cs false false s e h = record {
     joined = refl;
     begun = (tt, lacks_short w [] some_word);
     stops = λ d more j f. let same : c ≡ d = cc in let g : p c ≡ p d = ap p same in let t = f.0.0 in absurd cc;
   }
 
-  without_furthest : (text : List ℕ) → Furthest Fits text (front_without p w text) (after_without p w text)
+  without_furthest : (text : List ℕ) → Furthest Fits text (take_while_without p w text) (drop_while_without p w text)
   without_furthest [] = record { joined = refl; begun = (tt, lacks_short w [] some_word); stops = λ c more j f. absurd cc }
-  without_furthest (c ∷ cs) = without_by c cs (starts w (c ∷ cs)) (p c) refl refl (without_furthest cs)
+  without_furthest (c ∷ cs) = without_by c cs (starts_with_word w (c ∷ cs)) (p c) refl refl (without_furthest cs)
 
 -- # Numbers
 
@@ -218,14 +218,14 @@ module _ (Kind : Type 0) (d : Digits) (most : ℕ) (p : ℕ → Bool) where
   record Counted (n : ℕ) (any : Bool) (text : List ℕ) (m : ℕ) (left : List ℕ) : Type 0 where
     used : List ℕ
     furthest : Furthest (IsNumberSoFar d most n) text used left
-    value : m ≡ number_from d n used
+    value : m ≡ number_of_digits d n used
     passed : p m ≡ true
     some : (any ≡ true) ⊎ (0 < length used)
 
   record Uncounted (n : ℕ) (any : Bool) (text left : List ℕ) : Type 0 where
     used : List ℕ
     furthest : Furthest (IsNumberSoFar d most n) text used left
-    unfit : p (number_from d n used) ≡ true → (any ≡ true) ⊎ (0 < length used) → (c : ℕ) × (rest : List ℕ) × (left ≡ c ∷ rest) × (d.is_digit c ≡ true)
+    unfit : p (number_of_digits d n used) ≡ true → (any ≡ true) ⊎ (0 < length used) → (c : ℕ) × (rest : List ℕ) × (left ≡ c ∷ rest) × (d.is_digit c ≡ true)
 
   abbrev NumberOutcome : ℕ → Bool → List ℕ → Result (ℕ × List ℕ) (Stop Kind) → Type 0
   NumberOutcome n any text (Ok x) = Counted n any text x.0 x.1
@@ -262,9 +262,9 @@ module _ (Kind : Type 0) (d : Digits) (most : ℕ) (p : ℕ → Bool) where
   number_read [] n any = end_by n any (p n) [] refl (stopped n [] (λ c cs e _ _. absurd cc))
   number_read (c ∷ cs) n any = digits_by n any c cs (d.is_digit c) (nat_le (Next d most n c) most) (read_digits d most p (Next d most n c) true cs) refl refl (number_read cs (Next d most n c) true)
 
-module _ {Kind : Type 0} (faults : Faults Kind) (d : Digits) (most : ℕ) (p : ℕ → Bool) (K : ℕ → Rest Kind) (h : (n : ℕ) → Heads (Not d.is_digit) (K n)) where
+module _ {Kind : Type 0} (faults : FaultRanking Kind) (d : Digits) (most : ℕ) (p : ℕ → Bool) (K : ℕ → Rest Kind) (h : (n : ℕ) → Heads (Not d.is_digit) (K n)) where
   abbrev NumberIs : List ℕ → ℕ → Type 0
-  NumberIs text n = IsNumberSoFar d most 0 text × (0 < length text) × (n ≡ number_from d 0 text) × (p n ≡ true)
+  NumberIs text n = IsNumberSoFar d most 0 text × (0 < length text) × (n ≡ number_of_digits d 0 text) × (p n ≡ true)
 
   number_outcome : (text : List ℕ) (out : Result (ℕ × List ℕ) (Stop Kind)) → NumberOutcome Kind d most p 0 false text out → Outcome faults (number d most p) K text out
   number_outcome text (Ok x) r =
@@ -276,19 +276,19 @@ module _ {Kind : Type 0} (faults : Faults Kind) (d : Digits) (most : ℕ) (p : �
       (λ b s. r.unfit (ap p (sym s.2) ∙ s.3) (inr s.1))
   number_outcome text (Err (Faulty k left)) r = elim r [ ]
 
-module _ {Kind : Type 0} {faults : Faults Kind} where
-  pub exact_run : {p : ℕ → Bool} {K : List ℕ → Rest Kind} → ((cs : List ℕ) → Heads (Not p) (K cs)) → Exact faults (run p) K (read_run p)
+module _ {Kind : Type 0} {faults : FaultRanking Kind} where
+  pub exact_run : {p : ℕ → Bool} {K : List ℕ → Rest Kind} → ((cs : List ℕ) → Heads (Not p) (K cs)) → Exact faults (char_run p) K (read_run p)
   exact_run {p} {K} h = record {
-    by = λ text. greedy_read faults (λ v (cs : List ℕ). AllPass p v × (cs ≡ v)) (AllPass p) p K h text (front_of p text) (after_front p text) (front_joined p text) (λ v a s. s.0) (furthest_front (run_furthest p text) (pass_front p) (λ u m. m)) (front_of p text) (front_passes p text, refl) (λ b s. s.1);
+    by = λ text. greedy_read faults (λ v (cs : List ℕ). AllPass p v × (cs ≡ v)) (AllPass p) p K h text (take_while p text) (drop_while p text) (front_joined p text) (λ v a s. s.0) (furthest_front (run_furthest p text) (pass_front p) (λ u m. m)) (take_while p text) (front_passes p text, refl) (λ b s. s.1);
   }
 
   -- The word is not empty, and its characters are of the class.
-  pub exact_run_without : {p : ℕ → Bool} (w : List ℕ) {K : List ℕ → Rest Kind} → 0 < length w → AllPass p w → ((cs : List ℕ) → Heads (Not p) (K cs)) → Exact faults (run_without p w) K (read_run_without p w)
+  pub exact_run_without : {p : ℕ → Bool} (w : List ℕ) {K : List ℕ → Rest Kind} → 0 < length w → AllPass p w → ((cs : List ℕ) → Heads (Not p) (K cs)) → Exact faults (char_run_without p w) K (read_run_without p w)
   exact_run_without {p} w {K} some inside h =
       let end = ended w some in
       record {
         by = λ text. let f = without_furthest p w end inside text in
-            greedy_read faults (λ v (cs : List ℕ). AllPass p v × Lacks w v × (cs ≡ v)) (λ v. AllPass p v × Lacks w v) p K h text (front_without p w text) (after_without p w text) f.joined (λ v a s. (s.0, s.1)) (furthest_front f (fits_front p w end inside) (λ u m. m.0)) (front_without p w text) (f.begun.0, f.begun.1, refl) (λ b s. s.2);
+            greedy_read faults (λ v (cs : List ℕ). AllPass p v × LacksWord w v × (cs ≡ v)) (λ v. AllPass p v × LacksWord w v) p K h text (take_while_without p w text) (drop_while_without p w text) f.joined (λ v a s. (s.0, s.1)) (furthest_front f (fits_front p w end inside) (λ u m. m.0)) (take_while_without p w text) (f.begun.0, f.begun.1, refl) (λ b s. s.2);
       }
 
   pub exact_number : (d : Digits) (most : ℕ) (p : ℕ → Bool) {K : ℕ → Rest Kind} → ((n : ℕ) → Heads (Not d.is_digit) (K n)) → Exact faults (number d most p) K (read_number d most p)

@@ -2,8 +2,8 @@
 use Rattle.std.proofs.Common.{◌≡◌, ℕ, ◌<◌, Bool, true, false, List, [], ◌∷◌, ◌++◌, length, ◌⊎◌, inl, inr, ⊎_elim, refl, sym, ap, subst, ◌∙◌, arith}
 use Rattle.std.specs.Prelude.{Some}
 use Rattle.xml_grammar.specs.Digits.{Digits}
-use Rattle.xml_grammar.specs.Rules.{Event, Begin, Mark, Rule, Split, empty, one, word, AllPass, run, number, sequence, either, map_rule, with_length, atomic, with_value_marks, optional}
-use Rattle.xml_grammar.specs.Answers.{Faults}
+use Rattle.xml_grammar.specs.Rules.{Event, Begin, Mark, Rule, Split, empty_text, one_char, word, AllPass, char_run, number, sequence, either, map_rule, with_length, atomic, with_value_marks, optional}
+use Rattle.xml_grammar.specs.ParseResults.{FaultRanking}
 use Rattle.xml_grammar.proofs.Exact.{Rest, ahead, sequence_meets, sequence_whole}
 use Rattle.xml_grammar.proofs.Carry.{Idle, Covers, valued_meets, valued_whole, either_meets, either_whole}
 
@@ -72,7 +72,7 @@ module _ {Kind : Type 0} where
 
   -- # Rules that are never empty
 
-  pub starts_one : {P : ℕ → Type 0} {p : ℕ → Bool} → ((c : ℕ) → p c ≡ true → P c) → Starts P (one p)
+  pub starts_one : {P : ℕ → Type 0} {p : ℕ → Bool} → ((c : ℕ) → p c ≡ true → P c) → Starts P (one_char p)
   starts_one {P} {p} h = record {
     meets = one_meets;
     spells = λ c x a m. subst P (let e = m.1 in let same : a ≡ c = cc in same) (h a m.0);
@@ -80,7 +80,7 @@ module _ {Kind : Type 0} where
     some = λ a m. absurd (let e = m.1 in cc);
   }
     where
-      one_meets : (e : Event Kind) (c : ℕ) (x : List ℕ) → (one p).Meets e (c ∷ x) → P c
+      one_meets : (e : Event Kind) (c : ℕ) (x : List ℕ) → (one_char p).Meets e (c ∷ x) → P c
       one_meets Begin c x (inl m) = absurd cc
       one_meets Begin c x (inr m) = subst P (let k = m.2 in let same : m.0 ≡ c = cc in same) (h m.0 m.1)
       one_meets (Mark k b) c x m = elim m [ ]
@@ -157,7 +157,7 @@ module _ {Kind : Type 0} where
 
   -- # Rules that may be empty
 
-  pub heads_run : {P : ℕ → Type 0} {p : ℕ → Bool} {K : List ℕ → Rest Kind} → ((c : ℕ) → p c ≡ true → P c) → ((cs : List ℕ) → Heads P (K cs)) → Heads P (ahead (run p) K)
+  pub heads_run : {P : ℕ → Type 0} {p : ℕ → Bool} {K : List ℕ → Rest Kind} → ((c : ℕ) → p c ≡ true → P c) → ((cs : List ℕ) → Heads P (K cs)) → Heads P (ahead (char_run p) K)
   heads_run {P} {p} {K} h k = record {
     meets = run_meets;
     whole = λ c x m. head_of P c x m.1.front m.1.back m.1.joined (λ f fs e. in_front m.1.front m.1.front_is.0 f fs e) (λ _ b bs e. (k m.0).whole b bs (subst (K m.0).Whole e m.1.back_is));
@@ -167,12 +167,12 @@ module _ {Kind : Type 0} where
       in_front : (front : List ℕ) → AllPass p front → (f : ℕ) (fs : List ℕ) → front ≡ f ∷ fs → P f
       in_front front a f fs e = let b : AllPass p (f ∷ fs) = subst (AllPass p) e a in h f b.0
 
-      run_meets : (e : Event Kind) (c : ℕ) (x : List ℕ) → (ahead (run p) K).Meets e (c ∷ x) → P c
+      run_meets : (e : Event Kind) (c : ℕ) (x : List ℕ) → (ahead (char_run p) K).Meets e (c ∷ x) → P c
       run_meets Begin c x (inl m) = h c m.0
       run_meets (Mark q b) c x (inl m) = elim m [ ]
       run_meets e c x (inr m) = head_of P c x m.1.front m.1.back m.1.joined (λ f fs j. in_front m.1.front m.1.front_is.0 f fs j) (λ _ b bs j. (k m.0).meets e b bs (subst (λ (z : List ℕ). (K m.0).Meets e z) j m.1.back_is))
 
-  pub heads_empty : {A : Type 0} {P : ℕ → Type 0} {value : A} {K : A → Rest Kind} → Heads P (K value) → Heads P (ahead (empty value) K)
+  pub heads_empty : {A : Type 0} {P : ℕ → Type 0} {value : A} {K : A → Rest Kind} → Heads P (K value) → Heads P (ahead (empty_text value) K)
   heads_empty {A} {P} {value} {K} h = record {
     meets = empty_meets;
     whole = λ c x m. h.whole c x (whole_at (c ∷ x) m);
@@ -185,7 +185,7 @@ module _ {Kind : Type 0} where
       whole_at : (v : List ℕ) → (a : A) × Split v (λ u. (u ≡ []) × (a ≡ value)) (λ x. (K a).Whole x) → (K value).Whole v
       whole_at v m = subst (K value).Whole (sym (m.1.joined ∙ ap (λ (z : List ℕ). z ++ m.1.back) m.1.front_is.0)) (subst (λ (a : A). (K a).Whole m.1.back) m.1.front_is.1 m.1.back_is)
 
-      empty_meets : (e : Event Kind) (c : ℕ) (x : List ℕ) → (ahead (empty value) K).Meets e (c ∷ x) → P c
+      empty_meets : (e : Event Kind) (c : ℕ) (x : List ℕ) → (ahead (empty_text value) K).Meets e (c ∷ x) → P c
       empty_meets Begin c x (inl m) = absurd cc
       empty_meets (Mark k b) c x (inl m) = elim m [ ]
       empty_meets e c x (inr m) = h.meets e c x (meets_at e (c ∷ x) m)
@@ -216,7 +216,7 @@ module _ {Kind : Type 0} where
 
 -- # Rules that cover others by the first character
 
-module _ {Kind : Type 0} {faults : Faults Kind} where
+module _ {Kind : Type 0} {faults : FaultRanking Kind} where
   -- Where the text begins with no such character, nothing that begins so is there.
   pub none_covers : {P : ℕ → Type 0} {J K : Rest Kind} {text : List ℕ} → Heads P J → Follows J → ((c : ℕ) (x : List ℕ) → text ≡ c ∷ x → P c → ⊥) → Covers faults text J K
   none_covers {P} {J} {K} {text} h some none = record { events = no_events; whole = λ m. no_whole text refl m }

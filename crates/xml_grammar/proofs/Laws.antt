@@ -4,7 +4,7 @@ use Rattle.std.proofs.Common.{◌≡◌, ℕ, ◌+◌, ◌<◌, ◌≤◌, Bool,
 use Rattle.std.specs.Prelude.{Some}
 use Rattle.std.proofs.lemmas.List.{length-append, append-nil}
 use Rattle.xml_grammar.specs.Digits.{Digits}
-use Rattle.xml_grammar.specs.Rules.{Begin, Mark, Rule, never, empty, one, word, run, run_without, up_to, number, sequence, either, Each, many, map_rule, with_length, only, atomic, with_prefix_mark, with_value_marks, trap, optional, between, some_of, keeping_first, keeping_second, quoted, name_rule as name_of}
+use Rattle.xml_grammar.specs.Rules.{Begin, Mark, Rule, no_text, empty_text, one_char, word, char_run, char_run_without, up_to, number, sequence, either, SpellsEach, many, map_rule, with_length, filter_rule, atomic, with_prefix_mark, with_value_marks, refused_word, optional, between_gaps, one_or_more, keep_first, keep_second, quoted, name_rule as name_of}
 use Rattle.xml_grammar.proofs.Exact.{Rest, ahead, under}
 
 -- A beginning extends beyond the place of a mark.
@@ -39,22 +39,22 @@ module _ {Kind : Type 0} where
   pub inside_ahead : {A : Type 0} {r : Rule Kind A} {K : A → Rest Kind} → Lawful r → ((a : A) → Inside (K a)) → Inside (ahead r K)
   inside_ahead h i = record { within = λ k b v m. ⊎_elim (λ l. h.within k b v l) (λ z. let n = (i z.0).within k b z.1.back z.1.back_is in omega (arith, ap length z.1.joined, length-append z.1.front z.1.back)) m }
 
-  pub lawful_never : {A : Type 0} → let r : Rule Kind A = never in Lawful r
+  pub lawful_never : {A : Type 0} → let r : Rule Kind A = no_text in Lawful r
   lawful_never = record { whole = λ u a h. h; within = λ k b v m. absurd m; beyond = λ k b v m. absurd m }
 
-  pub lawful_empty : {A : Type 0} {value : A} → Lawful (empty value)
+  pub lawful_empty : {A : Type 0} {value : A} → Lawful (empty_text value)
   lawful_empty = record { whole = λ u a h. h.0; within = λ k b v m. absurd m; beyond = λ k b v m. absurd m }
 
-  pub lawful_one : {p : ℕ → Bool} → Lawful (one p)
+  pub lawful_one : {p : ℕ → Bool} → Lawful (one_char p)
   lawful_one = record { whole = λ u a h. inr (a, h.0, h.1); within = λ k b v m. absurd m; beyond = λ k b v m. absurd m }
 
   pub lawful_word : (w : List ℕ) → Lawful (word w)
   lawful_word w = record { whole = λ u a h. ([], sym (append-nil u ∙ h)); within = λ k b v m. absurd m; beyond = λ k b v m. absurd m }
 
-  pub lawful_run : {p : ℕ → Bool} → Lawful (run p)
+  pub lawful_run : {p : ℕ → Bool} → Lawful (char_run p)
   lawful_run {p} = record { whole = λ u a h. h.0; within = λ k b v m. absurd m; beyond = λ k b v m. absurd m }
 
-  pub lawful_run_without : {p : ℕ → Bool} (w : List ℕ) → Lawful (run_without p w)
+  pub lawful_run_without : {p : ℕ → Bool} (w : List ℕ) → Lawful (char_run_without p w)
   lawful_run_without {p} w = record { whole = λ u a h. (h.0, h.1); within = λ k b v m. absurd m; beyond = λ k b v m. absurd m }
 
   pub lawful_up_to : {p : ℕ → Bool} (w : List ℕ) → Lawful (up_to p w)
@@ -89,7 +89,7 @@ module _ {Kind : Type 0} where
   pub lawful_sized : {A : Type 0} {r : Rule Kind A} → Lawful r → Lawful (with_length r)
   lawful_sized h = record { whole = λ u a m. h.whole u a.0 m.0; within = h.within; beyond = h.beyond }
 
-  pub lawful_only : {A : Type 0} {r : Rule Kind A} (t : A → Bool) → Lawful r → Lawful (only t r)
+  pub lawful_only : {A : Type 0} {r : Rule Kind A} (t : A → Bool) → Lawful r → Lawful (filter_rule t r)
   lawful_only t h = record { whole = λ u a m. h.whole u a m.0; within = h.within; beyond = h.beyond }
 
   pub lawful_atomic : {A : Type 0} (r : Rule Kind A) → Lawful (atomic r)
@@ -115,7 +115,7 @@ module _ {Kind : Type 0} where
         m;
   }
 
-  pub lawful_trap : {A : Type 0} (kind : Kind) (seen rest : List ℕ) → 0 < length seen → let r : Rule Kind A = trap kind seen rest in Lawful r
+  pub lawful_trap : {A : Type 0} (kind : Kind) (seen rest : List ℕ) → 0 < length seen → let r : Rule Kind A = refused_word kind seen rest in Lawful r
   lawful_trap {A} kind seen rest some = record {
     whole = λ u a m. absurd m;
     within = λ k b v m. omega (arith, m.1);
@@ -124,7 +124,7 @@ module _ {Kind : Type 0} where
 
   module _ {A : Type 0} {r : Rule Kind A} (h : Lawful r) where
     -- The empty text has to be a beginning of the rule, so that no member at all is a beginning.
-    each_whole : r.Meets Begin [] → (xs : List A) (u : List ℕ) → Each r xs u → (many r).Meets Begin u
+    each_whole : r.Meets Begin [] → (xs : List A) (u : List ℕ) → SpellsEach r xs u → (many r).Meets Begin u
     each_whole e xs u s = (xs, record { front = u; back = []; joined = sym (append-nil u); front_is = s; back_is = e })
 
     pub lawful_many : r.Meets Begin [] → Lawful (many r)
@@ -139,22 +139,22 @@ module _ {Kind : Type 0} where
   pub lawful_optional : {A : Type 0} {r : Rule Kind A} → Lawful r → Lawful (optional r)
   lawful_optional h = lawful_either (lawful_valued Some h) lawful_empty
 
-  pub lawful_before : {A B : Type 0} {r : Rule Kind A} {s : Rule Kind B} → Lawful r → Lawful s → Lawful (keeping_first r s)
+  pub lawful_before : {A B : Type 0} {r : Rule Kind A} {s : Rule Kind B} → Lawful r → Lawful s → Lawful (keep_first r s)
   lawful_before h i = lawful_valued (λ x. x.0) (lawful_sequence h (λ _. i))
 
-  pub lawful_behind : {A B : Type 0} {r : Rule Kind A} {s : Rule Kind B} → Lawful r → Lawful s → Lawful (keeping_second r s)
+  pub lawful_behind : {A B : Type 0} {r : Rule Kind A} {s : Rule Kind B} → Lawful r → Lawful s → Lawful (keep_second r s)
   lawful_behind h i = lawful_valued (λ x. x.1) (lawful_sequence h (λ _. i))
 
   pub lawful_name_of : {p q : ℕ → Bool} → Lawful (name_of p q)
   lawful_name_of = lawful_valued (λ x. x.0 ∷ x.1) (lawful_sequence lawful_one (λ _. lawful_run))
 
-  pub lawful_some_of : {p : ℕ → Bool} → Lawful (some_of p)
+  pub lawful_some_of : {p : ℕ → Bool} → Lawful (one_or_more p)
   lawful_some_of = lawful_name_of
 
   pub lawful_quoted : {A : Type 0} {is_quote : ℕ → Bool} {inside : ℕ → Rule Kind A} → ((q : ℕ) → Lawful (inside q)) → Lawful (quoted is_quote inside)
   lawful_quoted h = lawful_valued (λ x. x.1) (lawful_sequence lawful_one (λ q. lawful_before (h q) (lawful_word (q ∷ []))))
 
-  pub lawful_between : {A B : Type 0} {gap : Rule Kind A} {member : Rule Kind B} → Lawful gap → Lawful member → member.Meets Begin [] → Lawful (between gap member)
+  pub lawful_between : {A B : Type 0} {gap : Rule Kind A} {member : Rule Kind B} → Lawful gap → Lawful member → member.Meets Begin [] → Lawful (between_gaps gap member)
   lawful_between h i e = lawful_sequence h (λ _. lawful_many (lawful_sequence i (λ _. h)) (inl e))
 
   -- # Rules without marks
@@ -174,19 +174,19 @@ module _ {Kind : Type 0} where
   pub quiet_sized : {A : Type 0} {r : Rule Kind A} → Quiet r → Quiet (with_length r)
   quiet_sized h = record { no_mark = h.no_mark }
 
-  pub quiet_only : {A : Type 0} {r : Rule Kind A} (t : A → Bool) → Quiet r → Quiet (only t r)
+  pub quiet_only : {A : Type 0} {r : Rule Kind A} (t : A → Bool) → Quiet r → Quiet (filter_rule t r)
   quiet_only t h = record { no_mark = h.no_mark }
 
-  pub quiet_empty : {A : Type 0} {value : A} → Quiet (empty value)
+  pub quiet_empty : {A : Type 0} {value : A} → Quiet (empty_text value)
   quiet_empty = record { no_mark = λ k b v m. m }
 
-  pub quiet_one : {p : ℕ → Bool} → Quiet (one p)
+  pub quiet_one : {p : ℕ → Bool} → Quiet (one_char p)
   quiet_one = record { no_mark = λ k b v m. m }
 
   pub quiet_word : (w : List ℕ) → Quiet (word w)
   quiet_word w = record { no_mark = λ k b v m. m }
 
-  pub quiet_run : {p : ℕ → Bool} → Quiet (run p)
+  pub quiet_run : {p : ℕ → Bool} → Quiet (char_run p)
   quiet_run = record { no_mark = λ k b v m. m }
 
   pub quiet_number : (d : Digits) (most : ℕ) (p : ℕ → Bool) → Quiet (number d most p)
@@ -195,20 +195,20 @@ module _ {Kind : Type 0} where
   pub quiet_optional : {A : Type 0} {r : Rule Kind A} → Quiet r → Quiet (optional r)
   quiet_optional h = quiet_either (quiet_valued Some h) quiet_empty
 
-  pub quiet_before : {A B : Type 0} {r : Rule Kind A} {s : Rule Kind B} → Quiet r → Quiet s → Quiet (keeping_first r s)
+  pub quiet_before : {A B : Type 0} {r : Rule Kind A} {s : Rule Kind B} → Quiet r → Quiet s → Quiet (keep_first r s)
   quiet_before h i = quiet_valued (λ x. x.0) (quiet_sequence h (λ _. i))
 
-  pub quiet_behind : {A B : Type 0} {r : Rule Kind A} {s : Rule Kind B} → Quiet r → Quiet s → Quiet (keeping_second r s)
+  pub quiet_behind : {A B : Type 0} {r : Rule Kind A} {s : Rule Kind B} → Quiet r → Quiet s → Quiet (keep_second r s)
   quiet_behind h i = quiet_valued (λ x. x.1) (quiet_sequence h (λ _. i))
 
   pub quiet_name_of : {p q : ℕ → Bool} → Quiet (name_of p q)
   quiet_name_of = quiet_valued (λ x. x.0 ∷ x.1) (quiet_sequence quiet_one (λ _. quiet_run))
 
-  pub quiet_some_of : {p : ℕ → Bool} → Quiet (some_of p)
+  pub quiet_some_of : {p : ℕ → Bool} → Quiet (one_or_more p)
   quiet_some_of = quiet_name_of
 
   pub quiet_quoted : {A : Type 0} {is_quote : ℕ → Bool} {inside : ℕ → Rule Kind A} → ((q : ℕ) → Quiet (inside q)) → Quiet (quoted is_quote inside)
   quiet_quoted h = quiet_valued (λ x. x.1) (quiet_sequence quiet_one (λ q. quiet_before (h q) (quiet_word (q ∷ []))))
 
-  pub quiet_between : {A B : Type 0} {gap : Rule Kind A} {member : Rule Kind B} → Quiet gap → Quiet member → Quiet (between gap member)
+  pub quiet_between : {A B : Type 0} {gap : Rule Kind A} {member : Rule Kind B} → Quiet gap → Quiet member → Quiet (between_gaps gap member)
   quiet_between h i = quiet_sequence h (λ _. quiet_many (quiet_sequence i (λ _. h)))

@@ -3,17 +3,17 @@
 use Rattle.std.proofs.Common.{◌≡◌, ℕ, ◌≤◌, Bool, true, false, cond, List, [], ◌∷◌, ◌++◌, length, Result, Ok, Err, ◌⊎◌, inl, inr, ⊎_elim, refl, sym, ap, subst, ◌∙◌, arith, eqb}
 use Rattle.std.proofs.lemmas.Bool.{eqb-true, eq-eqb}
 use Rattle.std.proofs.lemmas.List.{length-append}
-use Rattle.xml_grammar.specs.Rules.{Event, Begin, Mark, Rule, breaks, empty, one, word}
-use Rattle.xml_grammar.specs.TextReading.{Stop, Syntax, Faulty, read_one, read_word}
-use Rattle.xml_grammar.specs.readers.Functions.{read_empty}
-use Rattle.xml_grammar.specs.Answers.{Faults}
+use Rattle.xml_grammar.specs.Rules.{Event, Begin, Mark, Rule, BeginsOnly, empty_text, one_char, word}
+use Rattle.xml_grammar.specs.TextReading.{Stop, Syntax, Faulty, read_one_char, read_word}
+use Rattle.xml_grammar.specs.readers.RuleReaders.{read_empty}
+use Rattle.xml_grammar.specs.ParseResults.{FaultRanking}
 use Rattle.xml_grammar.proofs.Exact.{Rest, ahead, regroup, Passed, Later, IsRead, IsStopped, Outcome, Exact}
 
 -- a rule without marks
 abbrev pub leaf : {Kind A : Type 0} → (List ℕ → A → Type 0) → (List ℕ → Type 0) → Rule Kind A
-leaf S P = record { Spells = S; Meets = breaks P }
+leaf S P = record { Spells = S; Meets = BeginsOnly P }
 
-module _ {Kind : Type 0} (faults : Faults Kind) where
+module _ {Kind : Type 0} (faults : FaultRanking Kind) where
   module _ {A : Type 0} (S : List ℕ → A → Type 0) (P : List ℕ → Type 0) (K : A → Rest Kind) (text used left : List ℕ) (joined : text ≡ used ++ left) (longest : (v w : List ℕ) → text ≡ v ++ w → P v → length v ≤ length used) where
     module _ (a : A) (unique : (v w : List ℕ) (b : A) → text ≡ v ++ w → S v b → (v ≡ used) × (b ≡ a)) where
       settled_read : (e : Event Kind) (v w : List ℕ) → text ≡ v ++ w → (ahead (leaf S P) K).Meets e v → Passed faults e v used ⊎ Later faults (K a) e v used
@@ -36,7 +36,7 @@ module _ {Kind : Type 0} (faults : Faults Kind) where
       leaf_stopped p = record { used = used; joined = joined; begun = p; settled = settled_stopped; none = λ v w b j h _. none v w b j h }
 
   -- the empty text
-  empty_outcome : {A : Type 0} (value : A) (K : A → Rest Kind) (text : List ℕ) → IsRead faults (empty value) K text value text
+  empty_outcome : {A : Type 0} (value : A) (K : A → Rest Kind) (text : List ℕ) → IsRead faults (empty_text value) K text value text
   empty_outcome {A} value K text = leaf_read (λ u (b : A). (u ≡ []) × (b ≡ value)) (λ u. u ≡ []) K text [] text refl (λ v w j m. omega (arith, ap length m)) value (λ v w b j m. m) (refl, refl)
 
   -- one character
@@ -52,7 +52,7 @@ module _ {Kind : Type 0} (faults : Faults Kind) where
   other_head : (p : ℕ → Bool) (c d : ℕ) (rest v w : List ℕ) → p c ≡ false → p d ≡ true → c ∷ rest ≡ v ++ w → v ≡ d ∷ [] → ⊥
   other_head p c d rest v w f t j m = let g : p d ≡ p c = ap p (same_head c d rest v w j m) in absurd cc
 
-  one_by : (p : ℕ → Bool) (K : ℕ → Rest Kind) (c : ℕ) (rest : List ℕ) (b : Bool) → p c ≡ b → Outcome faults (one p) K (c ∷ rest) (cond b (Ok (c, rest)) (Err (Syntax (c ∷ rest))))
+  one_by : (p : ℕ → Bool) (K : ℕ → Rest Kind) (c : ℕ) (rest : List ℕ) (b : Bool) → p c ≡ b → Outcome faults (one_char p) K (c ∷ rest) (cond b (Ok (c, rest)) (Err (Syntax (c ∷ rest))))
   one_by p K c rest true h = leaf_read (OneIs p) (OneBegins p) K (c ∷ rest) (c ∷ []) rest refl
       (λ v w j m. ⊎_elim (λ e. omega (arith, ap length e)) (λ x. omega (arith, ap length x.2)) m)
       c
@@ -63,7 +63,7 @@ module _ {Kind : Type 0} (faults : Faults Kind) where
       (λ v w d j m. other_head p c d rest v w h m.0 j m.1)
       (inl refl)
 
-  one_outcome : (p : ℕ → Bool) (K : ℕ → Rest Kind) (text : List ℕ) → Outcome faults (one p) K text (read_one p text)
+  one_outcome : (p : ℕ → Bool) (K : ℕ → Rest Kind) (text : List ℕ) → Outcome faults (one_char p) K text (read_one_char p text)
   one_outcome p K [] = leaf_stopped (OneIs p) (OneBegins p) K [] [] [] refl
       (λ v w j m. omega (arith, ap length j, length-append v w))
       (λ v w d j m. absurd (omega (arith, ap length j, length-append v w, ap length m.1)))
@@ -145,11 +145,11 @@ module _ {Kind : Type 0} (faults : Faults Kind) where
       h.begun
   word_outcome w K text (Err (Faulty k left)) h = elim h [ ]
 
-module _ {Kind : Type 0} {faults : Faults Kind} where
-  pub exact_empty : {A : Type 0} {value : A} {K : A → Rest Kind} → Exact faults (empty value) K (read_empty value)
+module _ {Kind : Type 0} {faults : FaultRanking Kind} where
+  pub exact_empty : {A : Type 0} {value : A} {K : A → Rest Kind} → Exact faults (empty_text value) K (read_empty value)
   exact_empty {A} {value} {K} = record { by = λ text. empty_outcome faults value K text }
 
-  pub exact_one : {p : ℕ → Bool} {K : ℕ → Rest Kind} → Exact faults (one p) K (read_one p)
+  pub exact_one : {p : ℕ → Bool} {K : ℕ → Rest Kind} → Exact faults (one_char p) K (read_one_char p)
   exact_one {p} {K} = record { by = one_outcome faults p K }
 
   pub exact_word : {w : List ℕ} {K : Unit {0} → Rest Kind} → Exact faults (word w) K (read_word w)

@@ -2,9 +2,9 @@
 -- the word shows which rule is there.
 use Rattle.std.proofs.Common.{◌≡◌, ℕ, ◌≤◌, true, false, List, [], ◌∷◌, ◌++◌, length, Result, Ok, Err, ◌⊎◌, inl, inr, ⊎_elim, refl, sym, ap, subst, ◌∙◌, append_assoc, arith}
 use Rattle.std.proofs.lemmas.List.{length-append, append-nil, append_cancel_left}
-use Rattle.xml_grammar.specs.Rules.{Event, Begin, Mark, Rule, word, sequence, either, map_rule, with_length, with_value_marks, with_prefix_mark, trap, keeping_first, keeping_second}
-use Rattle.xml_grammar.specs.TextReading.{Stop, Syntax, Faulty, ◌>>=◌, starts}
-use Rattle.xml_grammar.specs.Answers.{Faults}
+use Rattle.xml_grammar.specs.Rules.{Event, Begin, Mark, Rule, word, sequence, either, map_rule, with_length, with_value_marks, with_prefix_mark, refused_word, keep_first, keep_second}
+use Rattle.xml_grammar.specs.TextReading.{Stop, Syntax, Faulty, ◌>>=◌, starts_with_word}
+use Rattle.xml_grammar.specs.ParseResults.{FaultRanking}
 use Rattle.xml_grammar.proofs.Exact.{Rest, ahead, regroup, Passed, IsStopped, Outcome}
 use Rattle.xml_grammar.proofs.Carry.{Idle, Covers}
 use Rattle.xml_grammar.proofs.Fronts.{GoesOn, compare, starts_is, starts_at}
@@ -26,10 +26,10 @@ pub next_is : {text : List ℕ} (w : List ℕ) (c : ℕ) (x : List ℕ) (d : ℕ
 next_is w c x d y j k = let e : c ∷ x ≡ d ∷ y = append_cancel_left w (c ∷ x) (d ∷ y) (sym j ∙ k) in cc
 
 -- Tests of the word and the character after it.
-pub next_true : (w : List ℕ) (d : ℕ) (text : List ℕ) → starts (w ++ (d ∷ [])) text ≡ true → (x : List ℕ) × (text ≡ w ++ (d ∷ x))
+pub next_true : (w : List ℕ) (d : ℕ) (text : List ℕ) → starts_with_word (w ++ (d ∷ [])) text ≡ true → (x : List ℕ) × (text ≡ w ++ (d ∷ x))
 next_true w d text h = let j = starts_is (w ++ (d ∷ [])) text h in (_, j ∙ append_assoc w (d ∷ []) _)
 
-pub next_false : (w : List ℕ) (d : ℕ) (text x : List ℕ) → starts (w ++ (d ∷ [])) text ≡ false → text ≡ w ++ (d ∷ x) → ⊥
+pub next_false : (w : List ℕ) (d : ℕ) (text x : List ℕ) → starts_with_word (w ++ (d ∷ [])) text ≡ false → text ≡ w ++ (d ∷ x) → ⊥
 next_false w d text x h j = let k = starts_at (w ++ (d ∷ [])) x (j ∙ sym (append_assoc w (d ∷ []) x)) in absurd cc
 
 module _ {Kind : Type 0} where
@@ -135,17 +135,17 @@ module _ {Kind : Type 0} where
       marked_meets (Mark k b) v (inl m) = inr (f v m.2)
       marked_meets (Mark k b) v (inr m) = h.meets (Mark k b) v m
 
-  pub led_trap : {A : Type 0} {Q : ℕ → Type 0} (kind : Kind) (w : List ℕ) (d : ℕ) (rest : List ℕ) → Q d → let r : Rule Kind A = trap kind w (d ∷ rest) in Led w Q r
+  pub led_trap : {A : Type 0} {Q : ℕ → Type 0} (kind : Kind) (w : List ℕ) (d : ℕ) (rest : List ℕ) → Q d → let r : Rule Kind A = refused_word kind w (d ∷ rest) in Led w Q r
   led_trap {A} {Q} kind w d rest is = record { fronts = λ u x j. (x, j); meets = trap_meets; spells = λ v a m. absurd m }
     where
-      trap_meets : (e : Event Kind) (v : List ℕ) → let r : Rule Kind A = trap kind w (d ∷ rest) in r.Meets e v → LedBy w Q e v
+      trap_meets : (e : Event Kind) (v : List ℕ) → let r : Rule Kind A = refused_word kind w (d ∷ rest) in r.Meets e v → LedBy w Q e v
       trap_meets Begin v m = inl (refl, m.0, m.1)
       trap_meets (Mark k b) v m = inr (record { next = d; rest = rest; joined = m.2; is = is })
 
-  pub led_before : {A B : Type 0} {w : List ℕ} {Q : ℕ → Type 0} {r : Rule Kind A} (s : Rule Kind B) → Led w Q r → Led w Q (keeping_first r s)
+  pub led_before : {A B : Type 0} {w : List ℕ} {Q : ℕ → Type 0} {r : Rule Kind A} (s : Rule Kind B) → Led w Q r → Led w Q (keep_first r s)
   led_before s h = led_valued (λ x. x.0) (led_sequence (λ _. s) h)
 
-  pub led_behind : {A B : Type 0} {w : List ℕ} {Q : ℕ → Type 0} {r : Rule Kind A} (s : Rule Kind B) → Led w Q r → Led w Q (keeping_second r s)
+  pub led_behind : {A B : Type 0} {w : List ℕ} {Q : ℕ → Type 0} {r : Rule Kind A} (s : Rule Kind B) → Led w Q r → Led w Q (keep_second r s)
   led_behind s h = led_valued (λ x. x.1) (led_sequence (λ _. s) h)
 
   -- A rule that is led by a longer word is led by each shorter beginning of it.
@@ -192,7 +192,7 @@ module _ {Kind : Type 0} where
       no_mark : (k : Kind) (b : ℕ) → let e : Event Kind = Mark k b in e ≡ Begin → ⊥
       no_mark k b e = absurd cc
 
-module _ {Kind : Type 0} {faults : Faults Kind} where
+module _ {Kind : Type 0} {faults : FaultRanking Kind} where
   -- Where the text doesn't continue the word with such a character, only prefixes of the word are
   -- there.
   pub led_covers_rest : {A : Type 0} {w : List ℕ} {Q : ℕ → Type 0} {r : Rule Kind A} {J : A → Rest Kind} {X : Rest Kind} {text : List ℕ} → Led w Q r → ((u x y : List ℕ) → w ≡ u ++ x → text ≡ u ++ y → X.Meets Begin u ⊎ (u ≡ [])) → ((d : ℕ) (x : List ℕ) → text ≡ w ++ (d ∷ x) → Q d → ⊥) → Covers faults text (ahead r J) X
@@ -218,7 +218,7 @@ module _ {Kind : Type 0} {faults : Faults Kind} where
 
 -- # Where there isn't a text of a rule
 
-module _ {Kind A : Type 0} (faults : Faults Kind) (w : List ℕ) (Q : ℕ → Type 0) (r : Rule Kind A) (K : A → Rest Kind) (h : Led w Q r) (text : List ℕ) (none : (d : ℕ) (x : List ℕ) → text ≡ w ++ (d ∷ x) → Q d → ⊥) where
+module _ {Kind A : Type 0} (faults : FaultRanking Kind) (w : List ℕ) (Q : ℕ → Type 0) (r : Rule Kind A) (K : A → Rest Kind) (h : Led w Q r) (text : List ℕ) (none : (d : ℕ) (x : List ℕ) → text ≡ w ++ (d ∷ x) → Q d → ⊥) where
   not_there : (v t : List ℕ) → text ≡ v ++ t → Past w Q v → ⊥
   not_there v t j p = none p.next (p.rest ++ t) (regroup t w (p.next ∷ p.rest) j p.joined) p.is
 
@@ -246,7 +246,7 @@ module _ {Kind A : Type 0} (faults : Faults Kind) (w : List ℕ) (Q : ℕ → Ty
   led_stopped (Err (Syntax left)) o = led_is_stopped o.used left o.joined o.begun (λ v t y j k. o.settled Begin v t j (inl (y, k)))
   led_stopped (Err (Faulty kind left)) o = absurd o.met
 
-module _ {Kind : Type 0} {faults : Faults Kind} where
+module _ {Kind : Type 0} {faults : FaultRanking Kind} where
   -- Where reading breaks off, the rule is covered by whatever has each prefix of the longest
   -- beginning as a beginning.
   pub stopped_covers : {A : Type 0} {r : Rule Kind A} {J : A → Rest Kind} {X : Rest Kind} {text left : List ℕ} → (h : IsStopped faults r J text left) → ((u x : List ℕ) → h.used ≡ u ++ x → X.Meets Begin u ⊎ (u ≡ [])) → Covers faults text (ahead r J) X

@@ -3,10 +3,10 @@
 use Rattle.std.proofs.Common.{◌≡◌, ℕ, ◌+◌, ◌-◌, ◌<◌, ◌≤◌, Bool, true, false, cond, List, [], ◌∷◌, ◌++◌, length, take, drop, Result, Ok, Err, ◌⊎◌, inl, inr, ⊎_elim, refl, sym, ap, subst, ◌∙◌, append_assoc, arith}
 use Rattle.std.specs.Prelude.{Option, Some, None}
 use Rattle.std.proofs.lemmas.List.{length-append, append-nil, take-append-drop, length-drop}
-use Rattle.xml_grammar.specs.Rules.{Event, Begin, Mark, Rule, word, with_prefix_mark, with_value_marks, trap}
-use Rattle.xml_grammar.specs.TextReading.{Stop, Syntax, Faulty, Reader, ◌>>=◌, starts, read_word}
-use Rattle.xml_grammar.specs.readers.Functions.{read_marked, judgement, read_judged, read_trap}
-use Rattle.xml_grammar.specs.Answers.{Faults}
+use Rattle.xml_grammar.specs.Rules.{Event, Begin, Mark, Rule, word, with_prefix_mark, with_value_marks, refused_word}
+use Rattle.xml_grammar.specs.TextReading.{Stop, Syntax, Faulty, Reader, ◌>>=◌, starts_with_word, read_word}
+use Rattle.xml_grammar.specs.readers.RuleReaders.{read_with_prefix_mark, value_or_fault, read_with_value_marks, read_refused_word}
+use Rattle.xml_grammar.specs.ParseResults.{FaultRanking}
 use Rattle.xml_grammar.proofs.Exact.{Rest, ahead, Passed, Behind, Later, IsRead, IsAtFault, Outcome, Exact}
 use Rattle.xml_grammar.proofs.Carry.{Idle, Covers, Carries, same, carried_same}
 use Rattle.xml_grammar.proofs.Leaves.{exact_word}
@@ -17,14 +17,14 @@ use Rattle.xml_grammar.proofs.ClosedRules.{anything}
 -- # Judged texts
 
 -- The judge returns the first fault that a value implies, if there is one.
-pub record Judges {Kind A : Type 0} (faults : Faults Kind) (Says : A → Kind → ℕ → Type 0) (r : Rule Kind A) (judge : A → Option (Kind × ℕ)) : Type 0 where
+pub record Judges {Kind A : Type 0} (faults : FaultRanking Kind) (Says : A → Kind → ℕ → Type 0) (r : Rule Kind A) (judge : A → Option (Kind × ℕ)) : Type 0 where
   pub within : (u : List ℕ) (a : A) (k : Kind) (b : ℕ) → r.Spells u a → Says a k b → (0 < b) × (b ≤ length u)
   pub silent : (u : List ℕ) (a : A) → r.Spells u a → judge a ≡ None → (k : Kind) (b : ℕ) → Says a k b → faults.is_fault k ≡ false
   pub says : (u : List ℕ) (a : A) → r.Spells u a → (x : Kind × ℕ) → judge a ≡ Some x → Says a x.0 x.1
   pub is_fault : (u : List ℕ) (a : A) → r.Spells u a → (x : Kind × ℕ) → judge a ≡ Some x → faults.is_fault x.0 ≡ true
   pub first : (u : List ℕ) (a : A) → r.Spells u a → (x : Kind × ℕ) → judge a ≡ Some x → (k : Kind) (b : ℕ) → Says a k b → faults.is_fault k ≡ true → (b < x.1) ⊎ ((b ≡ x.1) × (faults.rank x.0 ≤ faults.rank k))
 
-module _ {Kind A : Type 0} (faults : Faults Kind) (Says : A → Kind → ℕ → Type 0) (r : Rule Kind A) (judge : A → Option (Kind × ℕ)) (judges : Judges faults Says r judge) (quiet : Quiet r) where
+module _ {Kind A : Type 0} (faults : FaultRanking Kind) (Says : A → Kind → ℕ → Type 0) (r : Rule Kind A) (judge : A → Option (Kind × ℕ)) (judges : Judges faults Says r judge) (quiet : Quiet r) where
   module _ (text left : List ℕ) (a : A) (h : IsRead faults r (λ _. anything) text a left) where
     silent_settled : judge a ≡ None → (e : Event Kind) (v w : List ℕ) → text ≡ v ++ w → (ahead (with_value_marks Says r) (λ _. anything)).Meets e v → Passed faults e v h.used ⊎ Later faults anything e v h.used
     silent_settled none Begin v w j (inl m) = h.settled Begin v w j (inl m)
@@ -89,11 +89,11 @@ module _ {Kind A : Type 0} (faults : Faults Kind) (Says : A → Kind → ℕ →
         beyond = λ v w b j s _. let o = h.unique v w b j s tt in omega (arith, ap length o.0, front_is, is_within);
       }
 
-    judged_by : (o : Option (Kind × ℕ)) → judge a ≡ o → Outcome faults (with_value_marks Says r) (λ _. anything) text (judgement text (a, left) o)
+    judged_by : (o : Option (Kind × ℕ)) → judge a ≡ o → Outcome faults (with_value_marks Says r) (λ _. anything) text (value_or_fault text (a, left) o)
     judged_by None e = judged_read e
     judged_by (Some x) e = subst (λ (z : List ℕ). IsAtFault faults (with_value_marks Says r) (λ _. anything) text x.0 z) (sym (left_is x e)) (judged_fault x e)
 
-  judged_outcome : (text : List ℕ) (out : Result (A × List ℕ) (Stop Kind)) → Outcome faults r (λ _. anything) text out → Outcome faults (with_value_marks Says r) (λ _. anything) text (out >>= λ x. judgement text x (judge x.0))
+  judged_outcome : (text : List ℕ) (out : Result (A × List ℕ) (Stop Kind)) → Outcome faults r (λ _. anything) text out → Outcome faults (with_value_marks Says r) (λ _. anything) text (out >>= λ x. value_or_fault text x (judge x.0))
   judged_outcome text (Ok x) h = judged_by text x.1 x.0 h (judge x.0) refl
   judged_outcome text (Err (Syntax left)) h = record { used = h.used; joined = h.joined; begun = h.begun; settled = broken_settled; none = h.none }
     where
@@ -108,14 +108,14 @@ module _ {Kind A : Type 0} (faults : Faults Kind) (Says : A → Kind → ℕ →
 
 -- The test shows where there is a marked prefix that is a fault, and no other fault comes before
 -- it at the same place.
-pub record Marks {Kind A : Type 0} (faults : Faults Kind) (kind : Kind) (Front : List ℕ → Type 0) (r : Rule Kind A) (test : List ℕ → Bool) : Type 0 where
+pub record Marks {Kind A : Type 0} (faults : FaultRanking Kind) (kind : Kind) (Front : List ℕ → Type 0) (r : Rule Kind A) (test : List ℕ → Bool) : Type 0 where
   pub is_fault : (text : List ℕ) → test text ≡ true → faults.is_fault kind ≡ true
   pub stands : (text : List ℕ) → test text ≡ true → (seen : List ℕ) × (unseen : List ℕ) × (text ≡ seen ++ unseen) × Front seen
   pub harmless : (text : List ℕ) → test text ≡ false → (v w : List ℕ) → text ≡ v ++ w → Front v → faults.is_fault kind ≡ false
   pub least : (k : Kind) → faults.is_fault k ≡ true → faults.rank kind ≤ faults.rank k
   pub some : (u : List ℕ) (a : A) → r.Spells u a → 0 < length u
 
-module _ {Kind A : Type 0} (faults : Faults Kind) (kind : Kind) (Front : List ℕ → Type 0) (r : Rule Kind A) (test : List ℕ → Bool) (marks : Marks faults kind Front r test) (within : (k : Kind) (b : ℕ) (v : List ℕ) → r.Meets (Mark k b) v → b ≤ length v) where
+module _ {Kind A : Type 0} (faults : FaultRanking Kind) (kind : Kind) (Front : List ℕ → Type 0) (r : Rule Kind A) (test : List ℕ → Bool) (marks : Marks faults kind Front r test) (within : (k : Kind) (b : ℕ) (v : List ℕ) → r.Meets (Mark k b) v → b ≤ length v) where
   marked_settled : faults.is_fault kind ≡ true → (e : Event Kind) (v : List ℕ) → (ahead (with_prefix_mark kind Front r) (λ _. anything)).Meets e v → Behind faults kind e v []
   marked_settled t Begin v m = tt
   marked_settled t (Mark k b) v (inl (inl m)) = λ f. inr (omega (arith, m.1), marks.least k f)
@@ -165,9 +165,9 @@ module _ {Kind A : Type 0} (faults : Faults Kind) (kind : Kind) (Front : List �
 
 -- # Words that are refused
 
-module _ {Kind A : Type 0} (faults : Faults Kind) (kind : Kind) (seen rest : List ℕ) (K : A → Rest Kind) (is_fault : faults.is_fault kind ≡ true) (text : List ℕ) where
+module _ {Kind A : Type 0} (faults : FaultRanking Kind) (kind : Kind) (seen rest : List ℕ) (K : A → Rest Kind) (is_fault : faults.is_fault kind ≡ true) (text : List ℕ) where
   Trap : Rule Kind A
-  Trap = trap kind seen rest
+  Trap = refused_word kind seen rest
 
   trap_settled : (e : Event Kind) (v : List ℕ) → (ahead Trap K).Meets e v → Behind faults kind e v []
   unfolding Trap
@@ -175,7 +175,7 @@ module _ {Kind A : Type 0} (faults : Faults Kind) (kind : Kind) (seen rest : Lis
   trap_settled (Mark k b) v (inl m) = λ t. inr (omega (arith, m.1), omega (arith, ap faults.rank m.0))
   trap_settled (Mark k b) v (inr m) = absurd m.1.front_is
 
-  trap_fault : starts (seen ++ rest) text ≡ true → IsAtFault faults Trap K text kind text
+  trap_fault : starts_with_word (seen ++ rest) text ≡ true → IsAtFault faults Trap K text kind text
   unfolding Trap
   trap_fault t = record {
     used = [];
@@ -189,7 +189,7 @@ module _ {Kind A : Type 0} (faults : Faults Kind) (kind : Kind) (seen rest : Lis
     beyond = λ v w b j m _. absurd m;
   }
 
-  module _ (no : starts (seen ++ rest) text ≡ false) where
+  module _ (no : starts_with_word (seen ++ rest) text ≡ false) where
     trap_passed : (used : List ℕ) → ((v w : List ℕ) → text ≡ v ++ w → (more : List ℕ) × (seen ≡ v ++ more) → length v ≤ length used) → (e : Event Kind) (v w : List ℕ) → text ≡ v ++ w → (ahead Trap K).Meets e v → Passed faults e v used
     unfolding Trap
     trap_passed used longest Begin v w j (inl m) = longest v w j m
@@ -214,24 +214,24 @@ module _ {Kind A : Type 0} (faults : Faults Kind) (kind : Kind) (seen rest : Lis
     }
     trap_stopped (Err (Faulty k left)) h = absurd h.met
 
-  trap_by : (b : Bool) (out : Result (Unit {0} × List ℕ) (Stop Kind)) → starts (seen ++ rest) text ≡ b → Outcome faults (word seen) (λ _. anything) text out → Outcome faults (trap kind seen rest) K text (cond b (Err (Faulty kind text)) (out >>= λ x. Err (Syntax x.1)))
+  trap_by : (b : Bool) (out : Result (Unit {0} × List ℕ) (Stop Kind)) → starts_with_word (seen ++ rest) text ≡ b → Outcome faults (word seen) (λ _. anything) text out → Outcome faults (refused_word kind seen rest) K text (cond b (Err (Faulty kind text)) (out >>= λ x. Err (Syntax x.1)))
   unfolding Trap
   trap_by true out e h = trap_fault e
   trap_by false out e h = trap_stopped e out h
 
-module _ {Kind : Type 0} {faults : Faults Kind} where
+module _ {Kind : Type 0} {faults : FaultRanking Kind} where
   -- A judged rule is closed, and has no other marks.
-  pub exact_judged : {A : Type 0} {Says : A → Kind → ℕ → Type 0} {r : Rule Kind A} {judge : A → Option (Kind × ℕ)} {p : Reader Kind A} → Judges faults Says r judge → Quiet r → Exact faults r (λ _. anything) p → Exact faults (with_value_marks Says r) (λ _. anything) (read_judged judge p)
+  pub exact_judged : {A : Type 0} {Says : A → Kind → ℕ → Type 0} {r : Rule Kind A} {judge : A → Option (Kind × ℕ)} {p : Reader Kind A} → Judges faults Says r judge → Quiet r → Exact faults r (λ _. anything) p → Exact faults (with_value_marks Says r) (λ _. anything) (read_with_value_marks judge p)
   exact_judged {A} {Says} {r} {judge} {p} judges quiet h = record { by = λ text. judged_outcome faults Says r judge judges quiet text (p text) (h.by text) }
 
   -- A marked rule is closed. It has to be read exactly only where the test fails.
-  pub exact_marked : {A : Type 0} {kind : Kind} {Front : List ℕ → Type 0} {r : Rule Kind A} {test : List ℕ → Bool} (p : Reader Kind A) → Marks faults kind Front r test → Lawful r → ((text : List ℕ) → test text ≡ false → Outcome faults r (λ _. anything) text (p text)) → Exact faults (with_prefix_mark kind Front r) (λ _. anything) (read_marked kind test p)
+  pub exact_marked : {A : Type 0} {kind : Kind} {Front : List ℕ → Type 0} {r : Rule Kind A} {test : List ℕ → Bool} (p : Reader Kind A) → Marks faults kind Front r test → Lawful r → ((text : List ℕ) → test text ≡ false → Outcome faults r (λ _. anything) text (p text)) → Exact faults (with_prefix_mark kind Front r) (λ _. anything) (read_with_prefix_mark kind test p)
   exact_marked {A} {kind} {Front} {r} {test} p marks lawful h = record { by = λ text. marked_by faults kind Front r test marks lawful.within text (test text) (p text) refl (h text) }
 
-  pub exact_trap : {A : Type 0} {kind : Kind} (seen rest : List ℕ) {K : A → Rest Kind} → faults.is_fault kind ≡ true → Exact faults (trap kind seen rest) K (read_trap kind seen rest)
+  pub exact_trap : {A : Type 0} {kind : Kind} (seen rest : List ℕ) {K : A → Rest Kind} → faults.is_fault kind ≡ true → Exact faults (refused_word kind seen rest) K (read_refused_word kind seen rest)
   exact_trap {A} {kind} seen rest {K} is_fault =
       let w : Exact faults (word seen) (λ _. anything) (read_word seen) = exact_word in
-      record { by = λ text. trap_by faults kind seen rest K is_fault text (starts (seen ++ rest) text) (read_word seen text) refl (w.by text) }
+      record { by = λ text. trap_by faults kind seen rest K is_fault text (starts_with_word (seen ++ rest) text) (read_word seen text) refl (w.by text) }
 
   -- A mark that isn't a fault changes nothing.
   pub exact_unmarked : {A : Type 0} {kind : Kind} {Front : List ℕ → Type 0} {r : Rule Kind A} {p : Reader Kind A} → faults.is_fault kind ≡ false → Exact faults r (λ _. anything) p → Exact faults (with_prefix_mark kind Front r) (λ _. anything) p
@@ -251,10 +251,10 @@ module _ {Kind : Type 0} {faults : Faults Kind} where
       unmarked text = record { spells = λ u a m. m; meets = to_marked; later = λ u a e x m. m; events = λ e v w j m. from_marked e v m; whole = λ v w b j sp k. (b, sp, k, refl) }
 
   -- Where there is no refused word, only prefixes of its first part are there.
-  pub trap_covers : {A : Type 0} {kind : Kind} (seen rest : List ℕ) {J : A → Rest Kind} {X : Rest Kind} {text : List ℕ} → ((u x y : List ℕ) → seen ≡ u ++ x → text ≡ u ++ y → X.Meets Begin u ⊎ (u ≡ [])) → starts (seen ++ rest) text ≡ false → Covers faults text (ahead (trap kind seen rest) J) X
+  pub trap_covers : {A : Type 0} {kind : Kind} (seen rest : List ℕ) {J : A → Rest Kind} {X : Rest Kind} {text : List ℕ} → ((u x y : List ℕ) → seen ≡ u ++ x → text ≡ u ++ y → X.Meets Begin u ⊎ (u ≡ [])) → starts_with_word (seen ++ rest) text ≡ false → Covers faults text (ahead (refused_word kind seen rest) J) X
   trap_covers {A} {kind} seen rest {J} {X} {text} fronts absent = record { events = trap_events; whole = λ m. m.1.front_is }
     where
-      trap_events : (e : Event Kind) (v w : List ℕ) → text ≡ v ++ w → (ahead (trap kind seen rest) J).Meets e v → X.Meets e v ⊎ Idle faults e v
+      trap_events : (e : Event Kind) (v w : List ℕ) → text ≡ v ++ w → (ahead (refused_word kind seen rest) J).Meets e v → X.Meets e v ⊎ Idle faults e v
       trap_events Begin v w j (inl m) = fronts v m.0 w m.1 j
       trap_events (Mark k b) v w j (inl m) = absurd (no_start (seen ++ rest) w absent (j ∙ ap (λ (z : List ℕ). z ++ w) m.2))
       trap_events e v w j (inr m) = absurd m.1.front_is

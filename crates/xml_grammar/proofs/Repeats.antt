@@ -2,10 +2,10 @@
 use Rattle.std.proofs.Common.{◌≡◌, ℕ, zero, suc, ◌<◌, ◌≤◌, Bool, true, false, cond, List, [], ◌∷◌, ◌++◌, length, Result, Ok, Err, ◌⊎◌, inl, inr, ⊎_elim, encode_utf8_all, refl, sym, ap, subst, ◌∙◌, append_assoc, arith}
 use Rattle.std.proofs.lemmas.Str.{length-le-encodes}
 use Rattle.std.proofs.lemmas.List.{length-append, nil_from_length}
-use Rattle.xml_grammar.specs.Rules.{Event, Mark, Rule, sequence, map_rule, Each, many}
+use Rattle.xml_grammar.specs.Rules.{Event, Mark, Rule, sequence, map_rule, SpellsEach, many}
 use Rattle.xml_grammar.specs.TextReading.{Stop, Reader, ◌>>=◌}
-use Rattle.xml_grammar.specs.readers.Functions.{read_at_most, read_many}
-use Rattle.xml_grammar.specs.Answers.{Faults}
+use Rattle.xml_grammar.specs.readers.RuleReaders.{read_at_most, read_many}
+use Rattle.xml_grammar.specs.ParseResults.{FaultRanking}
 use Rattle.xml_grammar.proofs.Exact.{Rest, ahead, regroup, sequence_outcome, IsRead, Outcome, Exact}
 use Rattle.xml_grammar.proofs.Carry.{idle_passed, Covers, Carries, same, carried_same, valued_outcome}
 use Rattle.xml_grammar.proofs.Heads.{Starts, Heads, heads_starts}
@@ -72,11 +72,11 @@ module _ {Kind A : Type 0} (r : Rule Kind A) (K : Rest Kind) where
         },
       )
 
-  module _ (faults : Faults Kind) (text : List ℕ) where
+  module _ (faults : FaultRanking Kind) (text : List ℕ) where
     -- there is one more member
     carries_more : Covers faults text K (ahead r more) → Carries faults text one_more (λ _. K) (many r) (λ _. K) (same faults)
     carries_more c = record {
-      spells = λ u xs h. subst (λ (z : List A). Each r z u) (sym h.2) (record { front = h.1.front; back = h.1.back; joined = h.1.joined; front_is = h.1.front_is; back_is = h.1.back_is });
+      spells = λ u xs h. subst (λ (z : List A). SpellsEach r z u) (sym h.2) (record { front = h.1.front; back = h.1.back; joined = h.1.joined; front_is = h.1.front_is; back_is = h.1.back_is });
       meets = one_more_meets;
       later = λ u a e x h. h;
       events = λ e v w j m. ⊎_elim
@@ -86,7 +86,7 @@ module _ {Kind A : Type 0} (r : Rule Kind A) (K : Rest Kind) where
       whole = members;
     }
       where
-        members : (v w : List ℕ) (xs : List A) → text ≡ v ++ w → Each r xs v → K.Whole w → (ys : List A) × one_more.Spells v ys × K.Whole w × (xs ≡ ys)
+        members : (v w : List ℕ) (xs : List A) → text ≡ v ++ w → SpellsEach r xs v → K.Whole w → (ys : List A) × one_more.Spells v ys × K.Whole w × (xs ≡ ys)
         members v w [] j sp k = absurd (c.whole (subst K.Whole (sym (j ∙ ap (λ (z : List ℕ). z ++ w) sp)) k))
         members v w (x ∷ xs) j sp k = (x ∷ xs, ((x, xs), record { front = sp.front; back = sp.back; joined = sp.joined; front_is = sp.front_is; back_is = sp.back_is }, refl), k, refl)
 
@@ -103,7 +103,7 @@ module _ {Kind A : Type 0} (r : Rule Kind A) (K : Rest Kind) where
       unique = stops;
     }
       where
-        stops : (v w : List ℕ) (b : List A) → text ≡ v ++ w → Each r b v → K.Whole w → (v ≡ []) × (b ≡ [])
+        stops : (v w : List ℕ) (b : List A) → text ≡ v ++ w → SpellsEach r b v → K.Whole w → (v ≡ []) × (b ≡ [])
         stops v w [] j sp k = (sp, refl)
         stops v w (x ∷ xs) j sp k = absurd (c.whole (x, record { front = sp.front; back = sp.back ++ w; joined = regroup w sp.front sp.back j sp.joined; front_is = sp.front_is; back_is = (xs, record { front = sp.back; back = w; joined = refl; front_is = sp.back_is; back_is = k }) }))
 
@@ -133,13 +133,13 @@ module _ {Kind A : Type 0} (r : Rule Kind A) (K : Rest Kind) where
 module _ {Kind : Type 0} where
   -- The test shows whether one more member follows: then nothing of what follows the members is
   -- there, else no member is.
-  pub record Repeats {A : Type 0} (faults : Faults Kind) (r : Rule Kind A) (K : Rest Kind) (test : List ℕ → Bool) : Type 0 where
+  pub record Repeats {A : Type 0} (faults : FaultRanking Kind) (r : Rule Kind A) (K : Rest Kind) (test : List ℕ → Bool) : Type 0 where
     pub at_end : test [] ≡ false
     pub uses : (u : List ℕ) (a : A) → r.Spells u a → 0 < length u
     pub goes_on : (text : List ℕ) → test text ≡ true → Covers faults text K (ahead r (more r K))
     pub stops : (text : List ℕ) → test text ≡ false → Covers faults text (ahead r (more r K)) K
 
-  module _ {A : Type 0} (faults : Faults Kind) (r : Rule Kind A) (K : Rest Kind) (test : List ℕ → Bool) (p : Reader Kind A) (h : Repeats faults r K test) (exact : Exact faults r (more r K) p) where
+  module _ {A : Type 0} (faults : FaultRanking Kind) (r : Rule Kind A) (K : Rest Kind) (test : List ℕ → Bool) (p : Reader Kind A) (h : Repeats faults r K test) (exact : Exact faults r (more r K) p) where
     shorter : (text left : List ℕ) (a : A) (n : ℕ) → IsRead faults r (more r K) text a left → length text ≤ suc n → length left ≤ n
     shorter text left a n i le = omega (arith, h.uses i.used a i.spelled, ap length i.joined, length-append i.used left)
 
@@ -163,6 +163,6 @@ module _ {Kind : Type 0} where
         none = λ k b m. ⊎_elim (λ l. i.none k b l) (λ l. g.none k b l) (many_meets r K (Mark k b) [] m);
       }
 
-module _ {Kind : Type 0} {faults : Faults Kind} where
+module _ {Kind : Type 0} {faults : FaultRanking Kind} where
   pub exact_many : {A : Type 0} {r : Rule Kind A} {K : Rest Kind} {test : List ℕ → Bool} {p : Reader Kind A} → Repeats faults r K test → Exact faults r (more r K) p → Exact faults (many r) (λ _. K) (read_many test p)
   exact_many {A} {r} {K} {test} {p} h exact = record { by = λ text. many_outcome faults r K test p h exact (length (encode_utf8_all text)) text (length-le-encodes text) }

@@ -3,10 +3,10 @@
 use Rattle.std.proofs.Common.{◌≡◌, ℕ, ◌<◌, Bool, true, false, List, [], ◌∷◌, ◌++◌, length, ◌⊎◌, inl, inr, ⊎_elim, refl, sym, ap, subst, ◌∙◌, arith}
 use Rattle.std.specs.Prelude.{◌&&◌, Option, Some, None}
 use Rattle.std.proofs.lemmas.List.{length-append, append-nil}
-use Rattle.xml_grammar.specs.Rules.{Event, Begin, Mark, Rule, AllPass, empty, run, sequence, many, map_rule, optional, some_of, keeping_second}
-use Rattle.xml_grammar.specs.TextReading.{Reader, head_is, after_front}
-use Rattle.xml_grammar.specs.readers.Functions.{space_then, read_many, read_optional}
-use Rattle.xml_grammar.specs.Answers.{Faults}
+use Rattle.xml_grammar.specs.Rules.{Event, Begin, Mark, Rule, AllPass, empty_text, char_run, sequence, many, map_rule, optional, one_or_more, keep_second}
+use Rattle.xml_grammar.specs.TextReading.{Reader, first_char_is, drop_while}
+use Rattle.xml_grammar.specs.readers.RuleReaders.{space_then, read_many, read_optional}
+use Rattle.xml_grammar.specs.ParseResults.{FaultRanking}
 use Rattle.xml_grammar.proofs.Exact.{Rest, ahead, regroup, sequence_meets, sequence_whole, Exact}
 use Rattle.xml_grammar.proofs.Carry.{Idle, Covers, valued_meets, valued_whole, either_meets, either_whole}
 use Rattle.xml_grammar.proofs.Fronts.{pass_append}
@@ -32,15 +32,15 @@ module _ (space : ℕ → Bool) where
   behind_weaker P Q v f h = record { spaces = h.spaces; next = h.next; rest = h.rest; joined = h.joined; pass = h.pass; no_space = h.no_space; is = f h.next h.is }
 
   -- what follows the white space of a text
-  after_pass : (u t : List ℕ) → AllPass space u → after_front space (u ++ t) ≡ after_front space t
+  after_pass : (u t : List ℕ) → AllPass space u → drop_while space (u ++ t) ≡ drop_while space t
   after_pass [] t h = refl
   after_pass (c ∷ u) t h = rw h.0 (after_pass u t h.1)
 
-  after_stop : (c : ℕ) (t : List ℕ) → space c ≡ false → after_front space (c ∷ t) ≡ c ∷ t
+  after_stop : (c : ℕ) (t : List ℕ) → space c ≡ false → drop_while space (c ∷ t) ≡ c ∷ t
   after_stop c t h = rw h refl
 
-  after_is : (P : ℕ → Type 0) (text v w : List ℕ) → text ≡ v ++ w → (h : Behind P v) → after_front space text ≡ h.next ∷ (h.rest ++ w)
-  after_is P text v w j h = ap (after_front space) (regroup w h.spaces (h.next ∷ h.rest) j h.joined) ∙ after_pass h.spaces (h.next ∷ (h.rest ++ w)) h.pass ∙ after_stop h.next (h.rest ++ w) h.no_space
+  after_is : (P : ℕ → Type 0) (text v w : List ℕ) → text ≡ v ++ w → (h : Behind P v) → drop_while space text ≡ h.next ∷ (h.rest ++ w)
+  after_is P text v w j h = ap (drop_while space) (regroup w h.spaces (h.next ∷ h.rest) j h.joined) ∙ after_pass h.spaces (h.next ∷ (h.rest ++ w)) h.pass ∙ after_stop h.next (h.rest ++ w) h.no_space
 
 both_true : (a b : Bool) → a && b ≡ true → b ≡ true
 both_true true b h = h
@@ -76,18 +76,18 @@ module _ {Kind : Type 0} (space : ℕ → Bool) where
     pub spells : (v : List ℕ) (a : A) → r.Spells v a → (0 < length v) × AllPass space v
 
 module _ {Kind : Type 0} (space : ℕ → Bool) where
-  pub blank_some_of : Blank {Kind = Kind} space (some_of space)
+  pub blank_some_of : Blank {Kind = Kind} space (one_or_more space)
   blank_some_of = record {
     begins = some_begins;
     meets = some_meets;
     spells = λ v a m. let s = m.1 in (omega (arith, ap length s.joined, length-append s.front s.back, ap length s.front_is.1), subst (AllPass space) (sym s.joined) (pass_append space s.front s.back (subst (AllPass space) (sym s.front_is.1) (s.front_is.0, tt)) s.back_is.0));
   }
     where
-      some_begins : (v : List ℕ) → AllPass space v → (some_of {Kind = Kind} space).Meets Begin v
+      some_begins : (v : List ℕ) → AllPass space v → (one_or_more {Kind = Kind} space).Meets Begin v
       some_begins [] h = inl (inl refl)
       some_begins (c ∷ v) h = inr (c, record { front = c ∷ []; back = v; joined = refl; front_is = (h.0, refl); back_is = h.1 })
 
-      some_meets : (e : Event Kind) (v : List ℕ) → (some_of {Kind = Kind} space).Meets e v → (e ≡ Begin) × AllPass space v
+      some_meets : (e : Event Kind) (v : List ℕ) → (one_or_more {Kind = Kind} space).Meets e v → (e ≡ Begin) × AllPass space v
       some_meets Begin v (inl (inl m)) = (refl, subst (AllPass space) (sym m) tt)
       some_meets Begin v (inl (inr m)) = (refl, subst (AllPass space) (sym m.2) (m.1, tt))
       some_meets (Mark k b) v (inl m) = elim m [ ]
@@ -120,13 +120,13 @@ module _ {Kind : Type 0} (space : ℕ → Bool) where
       head_space c x [] back j lt a = absurd (omega arith)
       head_space c x (d ∷ front) back j lt a = let same : c ≡ d = cc in ap space same ∙ a.0
 
-  pub leads_behind : {A B : Type 0} {P : ℕ → Type 0} {r : Rule Kind A} {s : Rule Kind B} → ((c : ℕ) → P c → space c ≡ false) → Blank space r → Starts P s → Leads space P (keeping_second r s)
+  pub leads_behind : {A B : Type 0} {P : ℕ → Type 0} {r : Rule Kind A} {s : Rule Kind B} → ((c : ℕ) → P c → space c ≡ false) → Blank space r → Starts P s → Leads space P (keep_second r s)
   leads_behind apart h i = leads_valued (λ x. x.1) (leads_sequence apart h i)
 
   -- # What follows
 
   -- optional white space, and a continuation that begins with such a character
-  pub spaced_run : {P : ℕ → Type 0} {L : Rest Kind} → ((c : ℕ) → P c → space c ≡ false) → Heads P L → Follows L → Spaced space P (ahead (run space) (λ _. L))
+  pub spaced_run : {P : ℕ → Type 0} {L : Rest Kind} → ((c : ℕ) → P c → space c ≡ false) → Heads P L → Follows L → Spaced space P (ahead (char_run space) (λ _. L))
   spaced_run {P} {L} apart heads follows = record {
     begins = λ v m. inl m;
     meets = run_meets;
@@ -142,7 +142,7 @@ module _ {Kind : Type 0} (space : ℕ → Bool) where
       by_whole v front [] j a m = absurd (follows.whole m)
       by_whole v front (c ∷ x) j a m = let is = heads.whole c x m in record { spaces = front; next = c; rest = x; joined = j; pass = a; no_space = apart c is; is = is }
 
-      run_meets : (e : Event Kind) (v : List ℕ) → (ahead (run space) (λ _. L)).Meets e v → SpacedBy space P e v
+      run_meets : (e : Event Kind) (v : List ℕ) → (ahead (char_run space) (λ _. L)).Meets e v → SpacedBy space P e v
       run_meets Begin v (inl m) = inl (refl, m)
       run_meets (Mark k b) v (inl m) = elim m [ ]
       run_meets e v (inr m) = by_back e v m.1.front m.1.back m.1.joined m.1.front_is.0 m.1.back_is
@@ -178,7 +178,7 @@ module _ {Kind : Type 0} (space : ℕ → Bool) where
     whole = λ v m. h.whole v (valued_whole f r K v m);
   }
 
-  pub spaced_behind : {A B : Type 0} {P : ℕ → Type 0} {r : Rule Kind A} {s : Rule Kind B} {K : B → Rest Kind} → Spaced space P (ahead r (λ _. ahead s K)) → Spaced space P (ahead (keeping_second r s) K)
+  pub spaced_behind : {A B : Type 0} {P : ℕ → Type 0} {r : Rule Kind A} {s : Rule Kind B} {K : B → Rest Kind} → Spaced space P (ahead r (λ _. ahead s K)) → Spaced space P (ahead (keep_second r s) K)
   spaced_behind {A} {B} {P} {r} {s} {K} h = spaced_valued (λ x. x.1) (spaced_sequence {s = λ _. s} {K = λ x. K x.1} h)
 
   -- a rule after optional white space
@@ -187,19 +187,19 @@ module _ {Kind : Type 0} (space : ℕ → Bool) where
       let g : Spaced space P (ahead (map_rule Some r) (λ _. K)) = spaced_leads (leads_valued Some h) in
       record {
         begins = λ v m. inl (inl (h.begins v m));
-        meets = λ e v m. ⊎_elim (λ l. g.meets e v l) (λ l. by_empty e v l) (either_meets (map_rule Some r) (empty None) (λ _. K) e v m);
-        whole = λ v m. ⊎_elim (λ l. g.whole v l) (λ l. i.whole v (empty_whole None (λ _. K) v l)) (either_whole (map_rule Some r) (empty None) (λ _. K) v m);
+        meets = λ e v m. ⊎_elim (λ l. g.meets e v l) (λ l. by_empty e v l) (either_meets (map_rule Some r) (empty_text None) (λ _. K) e v m);
+        whole = λ v m. ⊎_elim (λ l. g.whole v l) (λ l. i.whole v (empty_whole None (λ _. K) v l)) (either_whole (map_rule Some r) (empty_text None) (λ _. K) v m);
       }
     where
-      by_empty : (e : Event Kind) (v : List ℕ) → (ahead (empty None) (λ (_ : Option A). K)).Meets e v → SpacedBy space P e v
+      by_empty : (e : Event Kind) (v : List ℕ) → (ahead (empty_text None) (λ (_ : Option A). K)).Meets e v → SpacedBy space P e v
       by_empty Begin v (inl m) = inl (refl, subst (AllPass space) (sym m) tt)
       by_empty (Mark k b) v (inl m) = elim m [ ]
       by_empty e v (inr m) = i.meets e v (subst (λ (z : List ℕ). K.Meets e z) (sym (m.1.joined ∙ ap (λ (z : List ℕ). z ++ m.1.back) m.1.front_is.0)) m.1.back_is)
 
-      empty_whole : (value : Option A) (J : Option A → Rest Kind) (v : List ℕ) → (ahead (empty value) J).Whole v → (J value).Whole v
+      empty_whole : (value : Option A) (J : Option A → Rest Kind) (v : List ℕ) → (ahead (empty_text value) J).Whole v → (J value).Whole v
       empty_whole value J v m = subst (J value).Whole (sym (m.1.joined ∙ ap (λ (z : List ℕ). z ++ m.1.back) m.1.front_is.0)) (subst (λ (a : Option A). (J a).Whole m.1.back) m.1.front_is.1 m.1.back_is)
 
-module _ {Kind : Type 0} {faults : Faults Kind} (space p : ℕ → Bool) where
+module _ {Kind : Type 0} {faults : FaultRanking Kind} (space p : ℕ → Bool) where
   -- # Rules that cover others, by the character after the white space
 
   -- Where one more comes, nothing of what follows is there.
@@ -210,7 +210,7 @@ module _ {Kind : Type 0} {faults : Faults Kind} (space p : ℕ → Bool) where
   }
     where
       not_behind : (v w : List ℕ) → text ≡ v ++ w → Behind space Q v → ⊥
-      not_behind v w j b = apart b.next (ap (head_is p) (sym (after_is space Q text v w j b)) ∙ both_true (head_is space text) (head_is p (after_front space text)) t) b.is
+      not_behind v w j b = apart b.next (ap (first_char_is p) (sym (after_is space Q text v w j b)) ∙ both_true (first_char_is space text) (first_char_is p (drop_while space text)) t) b.is
 
       by_front : (e : Event Kind) (v : List ℕ) → e ≡ Begin → AllPass space v → (ahead r J).Meets e v ⊎ Idle faults e v
       by_front Begin v b a = inl (inl (h.begins v a))
@@ -230,20 +230,20 @@ module _ {Kind : Type 0} {faults : Faults Kind} (space p : ℕ → Bool) where
       by_front Begin v b a = inl (i.begins v a)
       by_front (Mark k b) v e a = absurd cc
 
-      head_true : (v w : List ℕ) → text ≡ v ++ w → 0 < length v → ((c : ℕ) (x : List ℕ) → v ≡ c ∷ x → space c ≡ true) → head_is space text ≡ true
+      head_true : (v w : List ℕ) → text ≡ v ++ w → 0 < length v → ((c : ℕ) (x : List ℕ) → v ≡ c ∷ x → space c ≡ true) → first_char_is space text ≡ true
       head_true [] w j lt f = absurd (omega arith)
-      head_true (c ∷ x) w j lt f = ap (head_is space) j ∙ f c x refl
+      head_true (c ∷ x) w j lt f = ap (first_char_is space) j ∙ f c x refl
 
       by_head : (v w : List ℕ) → text ≡ v ++ w → Behind space P v → ((c : ℕ) (x : List ℕ) → v ≡ c ∷ x → space c ≡ true) → ⊥
       by_head v w j b f =
           let first = head_true v w j (omega (arith, ap length b.joined, length-append b.spaces (b.next ∷ b.rest))) f in
-          let no : p b.next ≡ false = ap (head_is p) (sym (after_is space P text v w j b)) ∙ both_false (head_is space text) (head_is p (after_front space text)) t first in
+          let no : p b.next ≡ false = ap (first_char_is p) (sym (after_is space P text v w j b)) ∙ both_false (first_char_is space text) (first_char_is p (drop_while space text)) t first in
           let yes = is b.next b.is in absurd cc
 
       not_spelled : (v w : List ℕ) (a : A) → text ≡ v ++ w → r.Spells v a → ⊥
       not_spelled v w a j m = by_head v w j (h.spells v a m) (λ c x s. h.first_spelled c x a (subst (λ (z : List ℕ). r.Spells z a) s m))
 
-module _ {Kind : Type 0} {faults : Faults Kind} where
+module _ {Kind : Type 0} {faults : FaultRanking Kind} where
   -- Members, each after white space: the test looks at the character after it.
   pub exact_spaced_many : {A : Type 0} {P Q : ℕ → Type 0} {r : Rule Kind A} {K : Rest Kind} {q : Reader Kind A} (space p : ℕ → Bool) → Leads space P r → Spaced space Q K → ((c : ℕ) → P c → p c ≡ true) → ((c : ℕ) → p c ≡ true → Q c → ⊥) → Exact faults r (more r K) q → Exact faults (many r) (λ _. K) (read_many (space_then space p) q)
   exact_spaced_many {A} {P} {Q} {r} {K} {q} space p h i is apart exact = exact_many (record {

@@ -2,10 +2,10 @@
 -- what the rule says of it.
 use Rattle.std.proofs.Common.{◌≡◌, ℕ, ◌+◌, ◌<◌, ◌≤◌, true, false, List, [], ◌∷◌, ◌++◌, length, Result, Ok, Err, ◌⊎◌, inl, inr, ⊎_elim, refl, sym, ap, subst, ◌∙◌, append_assoc, arith}
 use Rattle.std.proofs.lemmas.List.{length-append, append-nil}
-use Rattle.xml_grammar.specs.Rules.{Event, Begin, Mark, Rule, breaks}
+use Rattle.xml_grammar.specs.Rules.{Event, Begin, Mark, Rule, BeginsOnly}
 use Rattle.xml_grammar.specs.TextReading.{Stop, Syntax, Faulty, Reader, ◌>>=◌}
-use Rattle.xml_grammar.specs.readers.Functions.{all_of, read_whole}
-use Rattle.xml_grammar.specs.Answers.{Faults, IsSaid, IsCalm, IsSpelled, BreaksOff, IsFirstFault, Answers}
+use Rattle.xml_grammar.specs.readers.RuleReaders.{require_end, read_whole_text}
+use Rattle.xml_grammar.specs.ParseResults.{FaultRanking, IsMarkedAt, HasNoFault, IsParsedAs, IsSyntaxErrorAt, IsFirstFault, IsParseResult}
 use Rattle.xml_grammar.proofs.Exact.{Rest, IsRead, IsStopped, IsAtFault, Outcome, Exact}
 use Rattle.xml_grammar.proofs.Heads.{Heads}
 use Rattle.xml_grammar.proofs.Laws.{Lawful, Inside}
@@ -13,7 +13,7 @@ use Rattle.xml_grammar.proofs.Laws.{Lawful, Inside}
 module _ {Kind : Type 0} where
   -- Nothing follows.
   abbrev pub ends : Rest Kind
-  ends = record { Meets = breaks (λ v. v ≡ []); Whole = λ v. v ≡ [] }
+  ends = record { Meets = BeginsOnly (λ v. v ≡ []); Whole = λ v. v ≡ [] }
 
   pub heads_ends : {P : ℕ → Type 0} → Heads P ends
   heads_ends {P} = record { meets = by_event; whole = λ c x h. absurd cc; none = λ k b m. absurd m }
@@ -35,13 +35,13 @@ same_front (c ∷ u) x (d ∷ v) y j n =
     let o = same_front u x v y tail (omega arith) in
     (let e = o.0 in cc, o.1)
 
-module _ {Kind A : Type 0} (faults : Faults Kind) (r : Rule Kind A) (lawful : Lawful r) (text : List ℕ) where
+module _ {Kind A : Type 0} (faults : FaultRanking Kind) (r : Rule Kind A) (lawful : Lawful r) (text : List ℕ) where
   -- a marked fault is an event of the rule
-  said_at : (kind : Kind) (left : List ℕ) → (s : IsSaid r text kind left) → text ≡ (s.before ++ s.seen) ++ s.unseen
+  said_at : (kind : Kind) (left : List ℕ) → (s : IsMarkedAt r text kind left) → text ≡ (s.before ++ s.seen) ++ s.unseen
   said_at kind left s = s.joined ∙ ap (λ (z : List ℕ). s.before ++ z) s.left_is ∙ sym (append_assoc s.before s.seen s.unseen)
 
   module _ (a : A) (left : List ℕ) (h : IsRead faults r (λ _. ends) text a left) where
-    calm_read : IsCalm faults r text
+    calm_read : HasNoFault faults r text
     calm_read kind place t s = ⊎_elim
         (λ p. absurd cc)
         (λ l. absurd l.2)
@@ -53,7 +53,7 @@ module _ {Kind A : Type 0} (faults : Faults Kind) (r : Rule Kind A) (lawful : La
         (λ l. omega (arith, ap length l.1, length-append h.used l.0, ap length l.2))
         (h.settled Begin v w j (inl m))
 
-    all_read : left ≡ [] → IsSpelled faults r text a
+    all_read : left ≡ [] → IsParsedAs faults r text a
     all_read e =
         let whole : h.used ≡ text = sym (h.joined ∙ ap (λ (z : List ℕ). h.used ++ z) e ∙ append-nil h.used) in
         record {
@@ -62,7 +62,7 @@ module _ {Kind A : Type 0} (faults : Faults Kind) (r : Rule Kind A) (lawful : La
           calm = calm_read;
         }
 
-    more_left : (c : ℕ) (cs : List ℕ) → left ≡ c ∷ cs → BreaksOff faults r text left
+    more_left : (c : ℕ) (cs : List ℕ) → left ≡ c ∷ cs → IsSyntaxErrorAt faults r text left
     more_left c cs e = record {
       beginning = h.used;
       joined = h.joined;
@@ -74,7 +74,7 @@ module _ {Kind A : Type 0} (faults : Faults Kind) (r : Rule Kind A) (lawful : La
       calm = calm_read;
     }
 
-  stopped_breaks : (left : List ℕ) → IsStopped faults r (λ _. ends) text left → BreaksOff faults r text left
+  stopped_breaks : (left : List ℕ) → IsStopped faults r (λ _. ends) text left → IsSyntaxErrorAt faults r text left
   stopped_breaks left h = record {
     beginning = h.used;
     joined = h.joined;
@@ -100,31 +100,31 @@ module _ {Kind A : Type 0} (faults : Faults Kind) (r : Rule Kind A) (lawful : La
         );
   }
     where
-      by_place : (other : Kind) (place : List ℕ) → (s : IsSaid r text other place) → (length h.used + length s.seen < length (s.before ++ s.seen)) ⊎ ((length h.used + length s.seen ≡ length (s.before ++ s.seen)) × (faults.rank kind ≤ faults.rank other)) → (length place < length left) ⊎ ((place ≡ left) × (faults.rank kind ≤ faults.rank other))
+      by_place : (other : Kind) (place : List ℕ) → (s : IsMarkedAt r text other place) → (length h.used + length s.seen < length (s.before ++ s.seen)) ⊎ ((length h.used + length s.seen ≡ length (s.before ++ s.seen)) × (faults.rank kind ≤ faults.rank other)) → (length place < length left) ⊎ ((place ≡ left) × (faults.rank kind ≤ faults.rank other))
       by_place other place s (inl lt) = inl (omega (arith, lt, length-append s.before s.seen, ap length h.joined, ap length s.joined, length-append h.used left, length-append s.before place))
       by_place other place s (inr e) =
           let n : length s.before ≡ length h.used = omega (arith, e.0, length-append s.before s.seen) in
           inr ((same_front s.before place h.used left (sym s.joined ∙ h.joined) n).1, e.1)
 
-  all_of_answers : (a : A) (left : List ℕ) → IsRead faults r (λ _. ends) text a left → Answers faults r text (all_of a left)
+  all_of_answers : (a : A) (left : List ℕ) → IsRead faults r (λ _. ends) text a left → IsParseResult faults r text (require_end a left)
   all_of_answers a [] h = all_read a [] h refl
   all_of_answers a (c ∷ cs) h = more_left a (c ∷ cs) h c cs refl
 
-  outcome_answers : (out : Result (A × List ℕ) (Stop Kind)) → Outcome faults r (λ _. ends) text out → Answers faults r text (out >>= λ x. all_of x.0 x.1)
+  outcome_answers : (out : Result (A × List ℕ) (Stop Kind)) → Outcome faults r (λ _. ends) text out → IsParseResult faults r text (out >>= λ x. require_end x.0 x.1)
   outcome_answers (Ok x) h = all_of_answers x.0 x.1 h
   outcome_answers (Err (Syntax left)) h = stopped_breaks left h
   outcome_answers (Err (Faulty kind left)) h = fault_first kind left h
 
-module _ {Kind : Type 0} {faults : Faults Kind} where
+module _ {Kind : Type 0} {faults : FaultRanking Kind} where
   -- A whole text is read exactly.
-  pub answers_whole : {A : Type 0} {r : Rule Kind A} {p : Reader Kind A} → Lawful r → Exact faults r (λ _. ends) p → (text : List ℕ) → Answers faults r text (read_whole p text)
+  pub answers_whole : {A : Type 0} {r : Rule Kind A} {p : Reader Kind A} → Lawful r → Exact faults r (λ _. ends) p → (text : List ℕ) → IsParseResult faults r text (read_whole_text p text)
   answers_whole {A} {r} {p} lawful exact text = outcome_answers faults r lawful text (p text) (exact.by text)
 
 -- # Equal views of answers
 
-module _ {Kind A : Type 0} (faults : Faults Kind) (r : Rule Kind A) (text : List ℕ) where
+module _ {Kind A : Type 0} (faults : FaultRanking Kind) (r : Rule Kind A) (text : List ℕ) where
   -- two longest beginnings are equal
-  one_break : (left other : List ℕ) → BreaksOff faults r text left → BreaksOff faults r text other → left ≡ other
+  one_break : (left other : List ℕ) → IsSyntaxErrorAt faults r text left → IsSyntaxErrorAt faults r text other → left ≡ other
   one_break left other h i = (same_front h.beginning left i.beginning other (sym h.joined ∙ i.joined) (omega (arith, h.longest i.beginning other i.joined i.begun, i.longest h.beginning left h.joined h.begun))).1
 
   -- two first faults have the same place, and neither has the lesser rank
@@ -140,7 +140,7 @@ module _ {Kind A : Type 0} (faults : Faults Kind) (r : Rule Kind A) (text : List
   -- For every view of answers: where it makes no difference between faults of one rank, it makes
   -- none between answers to a text.
   module _ {B : Type 0} (told : Result A (Stop Kind) → B) (alike : (kind other : Kind) (left : List ℕ) → faults.is_fault kind ≡ true → faults.is_fault other ≡ true → faults.rank kind ≡ faults.rank other → told (Err (Faulty kind left)) ≡ told (Err (Faulty other left))) where
-    pub told_alike : (x y : Result A (Stop Kind)) → Answers faults r text x → Answers faults r text y → told x ≡ told y
+    pub told_alike : (x y : Result A (Stop Kind)) → IsParseResult faults r text x → IsParseResult faults r text y → told x ≡ told y
     told_alike (Ok a) (Ok b) h i = ap (λ (z : A). told (Ok z)) (sym (h.unique b i.spelled))
     told_alike (Ok a) (Err (Syntax left)) h i = absurd (i.nothing a h.spelled)
     told_alike (Ok a) (Err (Faulty kind left)) h i = absurd (h.calm kind left i.is_fault i.said)

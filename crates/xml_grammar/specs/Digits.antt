@@ -14,8 +14,8 @@ decimal_digits = record { base = 10; is_digit = is_ascii_digit; value = λ c. c 
 
 -- the digits from `0` (48) to `9` (57), from `A` (65) to `F` (70), which are worth 55 less, and
 -- from `a` (97) on, worth 87 less
-abbrev pub hexadecimal : Digits
-hexadecimal =
+abbrev pub hexadecimal_digits : Digits
+hexadecimal_digits =
     record {
       base = 16;
       is_digit = is_ascii_hexdigit;

@@ -1,5 +1,5 @@
-pub mod Answers
 pub mod Digits
+pub mod ParseResults
 pub mod Rules
 pub mod TextReading
 pub mod readers

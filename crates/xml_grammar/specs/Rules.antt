@@ -43,33 +43,33 @@ pub record Split (text : List ℕ) (P Q : List ℕ → Type 0) : Type 0 where
   pub back_is : Q back
 
 -- Beginnings alone, without marks.
-abbrev pub breaks : {Kind : Type 0} → (List ℕ → Type 0) → Event Kind → List ℕ → Type 0
-breaks P Begin text = P text
-breaks P (Mark kind back) text = ⊥
+abbrev pub BeginsOnly : {Kind : Type 0} → (List ℕ → Type 0) → Event Kind → List ℕ → Type 0
+BeginsOnly P Begin text = P text
+BeginsOnly P (Mark kind back) text = ⊥
 
 -- # Rules that contain no other rule
 
 -- No text at all.
-abbrev pub never : {Kind A : Type 0} → Rule Kind A
-never = record { Spells = λ text a. ⊥; Meets = λ e text. ⊥ }
+abbrev pub no_text : {Kind A : Type 0} → Rule Kind A
+no_text = record { Spells = λ text a. ⊥; Meets = λ e text. ⊥ }
 
 -- The empty text, with this value.
-abbrev pub empty : {Kind A : Type 0} → A → Rule Kind A
-empty value =
-    record { Spells = λ text a. (text ≡ []) × (a ≡ value); Meets = breaks (λ text. text ≡ []) }
+abbrev pub empty_text : {Kind A : Type 0} → A → Rule Kind A
+empty_text value =
+    record { Spells = λ text a. (text ≡ []) × (a ≡ value); Meets = BeginsOnly (λ text. text ≡ []) }
 
 -- One character of a class.
-abbrev pub one : {Kind : Type 0} → (ℕ → Bool) → Rule Kind ℕ
-one p = record {
+abbrev pub one_char : {Kind : Type 0} → (ℕ → Bool) → Rule Kind ℕ
+one_char p = record {
   Spells = λ text c. (p c ≡ true) × (text ≡ c ∷ []);
-  Meets = breaks (λ text. (text ≡ []) ⊎ ((c : ℕ) × (p c ≡ true) × (text ≡ c ∷ [])));
+  Meets = BeginsOnly (λ text. (text ≡ []) ⊎ ((c : ℕ) × (p c ≡ true) × (text ≡ c ∷ [])));
 }
 
 -- A fixed word. Each prefix of it is a beginning.
 abbrev pub word : {Kind : Type 0} → List ℕ → Rule Kind (Unit {0})
 word w = record {
   Spells = λ text _. text ≡ w;
-  Meets = breaks (λ text. (rest : List ℕ) × (w ≡ text ++ rest));
+  Meets = BeginsOnly (λ text. (rest : List ℕ) × (w ≡ text ++ rest));
 }
 
 -- each character is of the class
@@ -78,33 +78,33 @@ AllPass p [] = Unit {0}
 AllPass p (c ∷ cs) = (p c ≡ true) × AllPass p cs
 
 -- Any number of characters of a class, possibly none.
-abbrev pub run : {Kind : Type 0} → (ℕ → Bool) → Rule Kind (List ℕ)
-run p = record {
+abbrev pub char_run : {Kind : Type 0} → (ℕ → Bool) → Rule Kind (List ℕ)
+char_run p = record {
   Spells = λ text cs. AllPass p text × (cs ≡ text);
-  Meets = breaks (AllPass p);
+  Meets = BeginsOnly (AllPass p);
 }
 
 -- the word doesn't occur in the text
-abbrev pub Lacks : List ℕ → List ℕ → Type 0
-Lacks w text = (u t : List ℕ) → text ≡ u ++ (w ++ t) → ⊥
+abbrev pub LacksWord : List ℕ → List ℕ → Type 0
+LacksWord w text = (u t : List ℕ) → text ≡ u ++ (w ++ t) → ⊥
 
 -- Any number of characters of a class, without the word; a beginning doesn't contain it either.
-abbrev pub run_without : {Kind : Type 0} → (ℕ → Bool) → List ℕ → Rule Kind (List ℕ)
-run_without p w = record {
-  Spells = λ text cs. AllPass p text × Lacks w text × (cs ≡ text);
-  Meets = breaks (λ text. AllPass p text × Lacks w text);
+abbrev pub char_run_without : {Kind : Type 0} → (ℕ → Bool) → List ℕ → Rule Kind (List ℕ)
+char_run_without p w = record {
+  Spells = λ text cs. AllPass p text × LacksWord w text × (cs ≡ text);
+  Meets = BeginsOnly (λ text. AllPass p text × LacksWord w text);
 }
 
 -- the word occurs in the text only at its end
-abbrev pub OnlyLast : List ℕ → List ℕ → Type 0
-OnlyLast w text = (u t : List ℕ) → text ≡ u ++ (w ++ t) → t ≡ []
+abbrev pub OccursOnlyAtEnd : List ℕ → List ℕ → Type 0
+OccursOnlyAtEnd w text = (u t : List ℕ) → text ≡ u ++ (w ++ t) → t ≡ []
 
 -- Characters of a class up to the first occurrence of the word, and the word. The value is the
 -- text before the word.
 abbrev pub up_to : {Kind : Type 0} → (ℕ → Bool) → List ℕ → Rule Kind (List ℕ)
 up_to p w = record {
-  Spells = λ text cs. (text ≡ cs ++ w) × AllPass p text × OnlyLast w text;
-  Meets = breaks (λ text. AllPass p text × OnlyLast w text);
+  Spells = λ text cs. (text ≡ cs ++ w) × AllPass p text × OccursOnlyAtEnd w text;
+  Meets = BeginsOnly (λ text. AllPass p text × OccursOnlyAtEnd w text);
 }
 
 -- digits whose number never exceeds the greatest, after digits of value n
@@ -115,17 +115,18 @@ IsNumberSoFar d most n (c ∷ cs) =
     × IsNumberSoFar d most (n * d.base + d.value c) cs
 
 -- the value of digits that follow digits of value n
-abbrev pub number_from : Digits → ℕ → List ℕ → ℕ
-number_from d n [] = n
-number_from d n (c ∷ cs) = number_from d (n * d.base + d.value c) cs
+abbrev pub number_of_digits : Digits → ℕ → List ℕ → ℕ
+number_of_digits d n [] = n
+number_of_digits d n (c ∷ cs) = number_of_digits d (n * d.base + d.value c) cs
 
 -- One or more digits of at most this value, and a number that passes. The test applies only to
 -- the whole number.
 abbrev pub number : {Kind : Type 0} → Digits → ℕ → (ℕ → Bool) → Rule Kind ℕ
 number d most p = record {
   Spells = λ text n.
-      IsNumberSoFar d most 0 text × (0 < length text) × (n ≡ number_from d 0 text) × (p n ≡ true);
-  Meets = breaks (IsNumberSoFar d most 0);
+      IsNumberSoFar d most 0 text × (0 < length text) × (n ≡ number_of_digits d 0 text)
+      × (p n ≡ true);
+  Meets = BeginsOnly (IsNumberSoFar d most 0);
 }
 
 -- # Rules made of others
@@ -146,15 +147,15 @@ either r s = record {
 }
 
 -- the text consists of one text of the rule for each value
-abbrev pub Each : {Kind A : Type 0} → Rule Kind A → List A → List ℕ → Type 0
-Each r [] text = text ≡ []
-Each r (x ∷ xs) text = Split text (λ u. r.Spells u x) (λ v. Each r xs v)
+abbrev pub SpellsEach : {Kind A : Type 0} → Rule Kind A → List A → List ℕ → Type 0
+SpellsEach r [] text = text ≡ []
+SpellsEach r (x ∷ xs) text = Split text (λ u. r.Spells u x) (λ v. SpellsEach r xs v)
 
 -- Any number of members.
 abbrev pub many : {Kind A : Type 0} → Rule Kind A → Rule Kind (List A)
 many {Kind} {A} r = record {
-  Spells = λ text xs. Each r xs text;
-  Meets = λ e text. (xs : List A) × Split text (λ u. Each r xs u) (λ v. r.Meets e v);
+  Spells = λ text xs. SpellsEach r xs text;
+  Meets = λ e text. (xs : List A) × Split text (λ u. SpellsEach r xs u) (λ v. r.Meets e v);
 }
 
 -- The texts of the rule, with their values mapped.
@@ -172,8 +173,8 @@ with_length r = record {
 }
 
 -- The texts whose value passes. The test applies to whole texts alone, so the beginnings stay.
-abbrev pub only : {Kind A : Type 0} → (A → Bool) → Rule Kind A → Rule Kind A
-only p r = record {
+abbrev pub filter_rule : {Kind A : Type 0} → (A → Bool) → Rule Kind A → Rule Kind A
+filter_rule p r = record {
   Spells = λ text a. r.Spells text a × (p a ≡ true);
   Meets = r.Meets;
 }
@@ -182,7 +183,7 @@ only p r = record {
 abbrev pub atomic : {Kind A : Type 0} → Rule Kind A → Rule Kind A
 atomic {Kind} {A} r = record {
   Spells = r.Spells;
-  Meets = breaks (λ text. (text ≡ []) ⊎ ((a : A) × r.Spells text a));
+  Meets = BeginsOnly (λ text. (text ≡ []) ⊎ ((a : A) × r.Spells text a));
 }
 
 -- # Rules with marks
@@ -204,10 +205,10 @@ with_prefix_mark kind P r = record {
 }
 
 -- the events of the judged rule
-abbrev pub JudgedMeets : {Kind A : Type 0} → (A → Kind → ℕ → Type 0) → Rule Kind A → Event Kind
+abbrev pub ValueMarkedMeets : {Kind A : Type 0} → (A → Kind → ℕ → Type 0) → Rule Kind A → Event Kind
     → List ℕ → Type 0
-JudgedMeets Says r Begin text = r.Meets Begin text
-JudgedMeets {Kind} {A} Says r (Mark k back) text =
+ValueMarkedMeets Says r Begin text = r.Meets Begin text
+ValueMarkedMeets {Kind} {A} Says r (Mark k back) text =
     ((a : A) × r.Spells text a × Says a k back) ⊎ r.Meets (Mark k back) text
 
 -- The texts of the rule; a whole text marks places in it with kinds, by its value, each a number
@@ -216,47 +217,51 @@ abbrev pub with_value_marks : {Kind A : Type 0} → (A → Kind → ℕ → Type
     → Rule Kind A
 with_value_marks Says r = record {
   Spells = r.Spells;
-  Meets = JudgedMeets Says r;
+  Meets = ValueMarkedMeets Says r;
 }
 
 -- the events of the trap
-abbrev pub TrapMeets : {Kind : Type 0} → Kind → List ℕ → List ℕ → Event Kind → List ℕ → Type 0
-TrapMeets kind seen rest Begin text = (more : List ℕ) × (seen ≡ text ++ more)
-TrapMeets kind seen rest (Mark k back) text =
+abbrev pub RefusedWordMeets : {Kind : Type 0} → Kind → List ℕ → List ℕ → Event Kind → List ℕ
+    → Type 0
+RefusedWordMeets kind seen rest Begin text = (more : List ℕ) × (seen ≡ text ++ more)
+RefusedWordMeets kind seen rest (Mark k back) text =
     (k ≡ kind) × (back ≡ length text) × (text ≡ seen ++ rest)
 
 -- A word that is known and refused. Only prefixes of its first part are beginnings; the whole
 -- word marks its own first place with this kind.
-abbrev pub trap : {Kind A : Type 0} → Kind → List ℕ → List ℕ → Rule Kind A
-trap kind seen rest = record { Spells = λ text a. ⊥; Meets = TrapMeets kind seen rest }
+abbrev pub refused_word : {Kind A : Type 0} → Kind → List ℕ → List ℕ → Rule Kind A
+refused_word kind seen rest =
+    record { Spells = λ text a. ⊥; Meets = RefusedWordMeets kind seen rest }
 
 -- # Shapes that grammars often have
 
 -- A rule, or nothing.
 abbrev pub optional : {Kind A : Type 0} → Rule Kind A → Rule Kind (Option A)
-optional r = either (map_rule Some r) (empty None)
+optional r = either (map_rule Some r) (empty_text None)
 
 -- Members between gaps: a gap, and any number of members, each followed by a gap. So no two gaps
 -- meet.
-abbrev pub between : {Kind A B : Type 0} → Rule Kind A → Rule Kind B → Rule Kind (A × List (B × A))
-between gap member = sequence gap (λ _. many (sequence member (λ _. gap)))
+abbrev pub between_gaps : {Kind A B : Type 0} → Rule Kind A → Rule Kind B
+    → Rule Kind (A × List (B × A))
+between_gaps gap member = sequence gap (λ _. many (sequence member (λ _. gap)))
 
 -- One or more characters of a class.
-abbrev pub some_of : {Kind : Type 0} → (ℕ → Bool) → Rule Kind (List ℕ)
-some_of p = map_rule (λ x. x.0 ∷ x.1) (sequence (one p) (λ _. run p))
+abbrev pub one_or_more : {Kind : Type 0} → (ℕ → Bool) → Rule Kind (List ℕ)
+one_or_more p = map_rule (λ x. x.0 ∷ x.1) (sequence (one_char p) (λ _. char_run p))
 
 -- A first character of one class, and any number of another.
 abbrev pub name_rule : {Kind : Type 0} → (ℕ → Bool) → (ℕ → Bool) → Rule Kind (List ℕ)
-name_rule first others = map_rule (λ x. x.0 ∷ x.1) (sequence (one first) (λ _. run others))
+name_rule first others =
+    map_rule (λ x. x.0 ∷ x.1) (sequence (one_char first) (λ _. char_run others))
 
 -- One rule and then another: the value is the value of the first, or of the second.
-abbrev pub keeping_first : {Kind A B : Type 0} → Rule Kind A → Rule Kind B → Rule Kind A
-keeping_first r s = map_rule (λ x. x.0) (sequence r (λ _. s))
+abbrev pub keep_first : {Kind A B : Type 0} → Rule Kind A → Rule Kind B → Rule Kind A
+keep_first r s = map_rule (λ x. x.0) (sequence r (λ _. s))
 
-abbrev pub keeping_second : {Kind A B : Type 0} → Rule Kind A → Rule Kind B → Rule Kind B
-keeping_second r s = map_rule (λ x. x.1) (sequence r (λ _. s))
+abbrev pub keep_second : {Kind A B : Type 0} → Rule Kind A → Rule Kind B → Rule Kind B
+keep_second r s = map_rule (λ x. x.1) (sequence r (λ _. s))
 
 -- A pair of equal quotes and the text between them, whose rule may depend on the quote.
 abbrev pub quoted : {Kind A : Type 0} → (ℕ → Bool) → (ℕ → Rule Kind A) → Rule Kind A
 quoted is_quote inside =
-    map_rule (λ x. x.1) (sequence (one is_quote) (λ q. keeping_first (inside q) (word (q ∷ []))))
+    map_rule (λ x. x.1) (sequence (one_char is_quote) (λ q. keep_first (inside q) (word (q ∷ []))))

@@ -23,30 +23,30 @@ abbrev pub ◌>>=◌ : {Kind A B : Type 0} → Result A (Stop Kind) → (A → R
 -- # Tests of what comes next
 
 -- the first character, if there is one, passes
-abbrev pub head_is : (ℕ → Bool) → List ℕ → Bool
-head_is p [] = false
-head_is p (c ∷ cs) = p c
+abbrev pub first_char_is : (ℕ → Bool) → List ℕ → Bool
+first_char_is p [] = false
+first_char_is p (c ∷ cs) = p c
 
 -- the text begins with the word
-abbrev pub starts : List ℕ → List ℕ → Bool
-starts [] text = true
-starts (c ∷ cs) [] = false
-starts (c ∷ cs) (d ∷ text) = if nat_eq c d then starts cs text else false
+abbrev pub starts_with_word : List ℕ → List ℕ → Bool
+starts_with_word [] text = true
+starts_with_word (c ∷ cs) [] = false
+starts_with_word (c ∷ cs) (d ∷ text) = if nat_eq c d then starts_with_word cs text else false
 
 -- the characters of a class at the front of the text, and what follows them
-abbrev pub front_of : (ℕ → Bool) → List ℕ → List ℕ
-front_of p [] = []
-front_of p (c ∷ cs) = if p c then (c ∷ front_of p cs) else []
+abbrev pub take_while : (ℕ → Bool) → List ℕ → List ℕ
+take_while p [] = []
+take_while p (c ∷ cs) = if p c then (c ∷ take_while p cs) else []
 
-abbrev pub after_front : (ℕ → Bool) → List ℕ → List ℕ
-after_front p [] = []
-after_front p (c ∷ cs) = if p c then after_front p cs else (c ∷ cs)
+abbrev pub drop_while : (ℕ → Bool) → List ℕ → List ℕ
+drop_while p [] = []
+drop_while p (c ∷ cs) = if p c then drop_while p cs else (c ∷ cs)
 
 -- # Rules that contain no other rule
 
-abbrev pub read_one : {Kind : Type 0} → (ℕ → Bool) → Reader Kind ℕ
-read_one p [] = Err (Syntax [])
-read_one p (c ∷ rest) = if p c then Ok (c, rest) else Err (Syntax (c ∷ rest))
+abbrev pub read_one_char : {Kind : Type 0} → (ℕ → Bool) → Reader Kind ℕ
+read_one_char p [] = Err (Syntax [])
+read_one_char p (c ∷ rest) = if p c then Ok (c, rest) else Err (Syntax (c ∷ rest))
 
 abbrev pub read_word : {Kind : Type 0} → List ℕ → Reader Kind (Unit {0})
 read_word [] text = Ok (tt, text)
@@ -54,7 +54,7 @@ read_word (c ∷ cs) [] = Err (Syntax [])
 read_word (c ∷ cs) (d ∷ rest) = if nat_eq c d then read_word cs rest else Err (Syntax (d ∷ rest))
 
 abbrev pub read_run : {Kind : Type 0} → (ℕ → Bool) → Reader Kind (List ℕ)
-read_run p text = Ok (front_of p text, after_front p text)
+read_run p text = Ok (take_while p text, drop_while p text)
 
 -- # Rules made of others
 
@@ -62,8 +62,9 @@ abbrev pub read_sequence : {Kind A B : Type 0} → Reader Kind A → (A → Read
     → Reader Kind (A × B)
 read_sequence p q text = p text >>= λ x. q x.0 x.1 >>= λ y. Ok ((x.0, y.0), y.1)
 
-abbrev pub read_valued : {Kind A B : Type 0} → (A → B) → Reader Kind A → Reader Kind B
-read_valued f p text = p text >>= λ x. Ok (f x.0, x.1)
+abbrev pub read_mapped : {Kind A B : Type 0} → (A → B) → Reader Kind A → Reader Kind B
+read_mapped f p text = p text >>= λ x. Ok (f x.0, x.1)
 
-abbrev pub read_some_of : {Kind : Type 0} → (ℕ → Bool) → Reader Kind (List ℕ)
-read_some_of p = read_valued (λ x. x.0 ∷ x.1) (read_sequence (read_one p) (λ _. read_run p))
+abbrev pub read_one_or_more : {Kind : Type 0} → (ℕ → Bool) → Reader Kind (List ℕ)
+read_one_or_more p =
+    read_mapped (λ x. x.0 ∷ x.1) (read_sequence (read_one_char p) (λ _. read_run p))

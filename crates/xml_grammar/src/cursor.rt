@@ -1,8 +1,8 @@
 //! Texts, character by character, and how many characters they have.
 ghost use Rattle.std.specs.Prelude.{◌≡◌, ◌==◌, ◌<◌, ◌-◌, ◌++◌, [], ◌∷◌, drop, take, length, chars};
 ghost use Rattle.std.specs.Prelude.{IfSome, IfNone};
-ghost use Rattle.xml_grammar.specs.TextReading.{head_is};
-ghost use Rattle.xml_grammar.specs.readers.Ends.{EndsWith};
+ghost use Rattle.xml_grammar.specs.TextReading.{first_char_is};
+ghost use Rattle.xml_grammar.specs.readers.Suffixes.{EndsWith};
 
 /// The first character of a text, and what follows it. Most are ASCII.
 #[inline(always)]
@@ -19,12 +19,12 @@ pub fn split_first(text: &str) -> Option<(char, &str)>
     if first < 128 {
         return Some((first as char, &text[1..]));
     }
-    split_wide(text)
+    split_any_first(text)
 }
 
 /// `split_first` for any character.
 #[inline(never)]
-fn split_wide(text: &str) -> Option<(char, &str)>
+fn split_any_first(text: &str) -> Option<(char, &str)>
     ensures first_and_rest { IfSome result (λ x. chars text.now ≡ x.0 ∷ chars x.1.now) }
     ensures rest_shrinks { IfSome result (λ x. length x.1.now < length text.now) }
     ensures none_is_empty { IfNone result (chars text.now ≡ []) }
@@ -38,8 +38,8 @@ fn split_wide(text: &str) -> Option<(char, &str)>
 
 /// Whether a text begins with a character.
 #[inline(always)]
-pub fn is_first(text: &str, letter: char) -> bool
-    ensures exact { result ≡ head_is (λ c. c == letter) (chars text.now) }
+pub fn starts_with_char(text: &str, letter: char) -> bool
+    ensures exact { result ≡ first_char_is (λ c. c == letter) (chars text.now) }
 {
     match split_first(text) {
         Some((first, _)) => first == letter,
@@ -48,7 +48,7 @@ pub fn is_first(text: &str, letter: char) -> bool
 }
 
 /// The empty text.
-pub fn nothing() -> &'static str
+pub fn empty_str() -> &'static str
     ensures has_no_characters { chars result.now ≡ [] }
 {
     ""
@@ -56,7 +56,7 @@ pub fn nothing() -> &'static str
 
 /// Whether a text is empty.
 #[inline(always)]
-pub fn is_over(text: &str) -> bool
+pub fn is_at_end(text: &str) -> bool
     ensures exact { result ≡ (length (chars text.now) == 0) }
 {
     match split_first(text) {
@@ -95,7 +95,7 @@ pub fn count_before(text: &str, rest: &str) -> usize
 }
 
 /// The rest of a text after its first `n` characters, empty if it has no more.
-pub fn skip(text: &str, n: usize) -> &str
+pub fn skip_chars(text: &str, n: usize) -> &str
     ensures exact { chars result.now ≡ drop n (chars text.now) }
 {
     let mut rest = text;

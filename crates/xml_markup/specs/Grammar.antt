@@ -5,17 +5,19 @@
 use Rattle.std.specs.Prelude.{ℕ, Bool, ◌≡◌, false, not, ◌||◌, List, codes, Option, Some}
 use Rattle.std.specs.Char.{is_ascii_digit, is_ascii_alphabetic}
 use Rattle.xml_names.specs.Characters.{is_char, is_space}
-use Rattle.xml_grammar.specs.Rules.{Rule, one, word, up_to, either, map_rule, only, trap, optional}
-use Rattle.xml_grammar.specs.Rules.{between, some_of, keeping_first, keeping_second, quoted}
+use Rattle.xml_grammar.specs.Rules.{Rule, one_char, word, up_to, either, map_rule, filter_rule}
+use Rattle.xml_grammar.specs.Rules.{refused_word, optional}
+use Rattle.xml_grammar.specs.Rules.{between_gaps, one_or_more, keep_first, keep_second, quoted}
 use Rattle.xml_grammar.specs.Rules.{name_rule}
 use Rattle.xml_tokens.specs.declared.fault_kind.FaultKind.{FaultKind}
 use Rattle.xml_tokens.specs.declared.fault_kind.FaultKind.TheVariants.{Doctyped, Encoded}
-use Rattle.xml_tokens.specs.Tokens.{equals, is_encoding_char, is_quote, name, some_spaces, spaces}
-use Rattle.xml_tokens.specs.Values.{line_ends, same_letters}
+use Rattle.xml_tokens.specs.Tokens.{equals, is_encoding_char, is_quote, name, required_spaces}
+use Rattle.xml_tokens.specs.Tokens.{spaces}
+use Rattle.xml_tokens.specs.Values.{normalize_line_ends, equals_ignoring_case}
 
 -- the texts of the rule, which spell nothing
-abbrev pub dropped : {A : Type 0} → Rule FaultKind A → Rule FaultKind (Unit {0})
-dropped r = map_rule (λ _. tt) r
+abbrev pub without_value : {A : Type 0} → Rule FaultKind A → Rule FaultKind (Unit {0})
+without_value r = map_rule (λ _. tt) r
 
 -- ---- comments, CDATA sections and processing instructions
 
@@ -23,34 +25,35 @@ dropped r = map_rule (λ _. tt) r
 -- right before the final `>`
 abbrev pub comment : Rule FaultKind (List ℕ)
 comment =
-    map_rule line_ends
-    (keeping_second (word (codes "<!--"))
-    (keeping_first (up_to is_char (codes "--")) (word (codes ">"))))
+    map_rule normalize_line_ends
+    (keep_second (word (codes "<!--"))
+    (keep_first (up_to is_char (codes "--")) (word (codes ">"))))
 
 -- [18] CDSect: `<![CDATA[`, Chars up to the first `]]>`
-abbrev pub section : Rule FaultKind (List ℕ)
-section = map_rule line_ends (keeping_second (word (codes "<![CDATA["))
+abbrev pub cdata_section : Rule FaultKind (List ℕ)
+cdata_section = map_rule normalize_line_ends (keep_second (word (codes "<![CDATA["))
     (up_to is_char (codes "]]>")))
 
 -- [17] PITarget: an NCName that isn't `xml`, ignoring ASCII case
-abbrev pub is_target : List ℕ → Bool
-is_target n = not (same_letters n (codes "xml"))
+abbrev pub is_pi_target : List ℕ → Bool
+is_pi_target n = not (equals_ignoring_case n (codes "xml"))
 
 -- what follows a target: nothing, or white space and Chars, up to the first `?>`
 abbrev pub pi_rest : Rule FaultKind (Unit {0})
 pi_rest =
-    either (dropped (keeping_second (one is_space) (up_to is_char (codes "?>"))))
+    either (without_value (keep_second (one_char is_space) (up_to is_char (codes "?>"))))
     (word (codes "?>"))
 
 -- [16] PI: `<?`, a target and what follows it
-abbrev pub instruction : Rule FaultKind (Unit {0})
-instruction = keeping_second (word (codes "<?")) (keeping_second (only is_target name) pi_rest)
+abbrev pub processing_instruction : Rule FaultKind (Unit {0})
+processing_instruction =
+    keep_second (word (codes "<?")) (keep_second (filter_rule is_pi_target name) pi_rest)
 
 -- ---- the XML declaration
 
 -- [26] VersionNum: `1.` and digits
 abbrev pub version_number : Rule FaultKind (Unit {0})
-version_number = dropped (keeping_second (word (codes "1.")) (some_of is_ascii_digit))
+version_number = without_value (keep_second (word (codes "1.")) (one_or_more is_ascii_digit))
 
 -- [81] EncName: a letter, and letters, digits, `.`, `_` and `-`
 abbrev pub encoding_name : Rule FaultKind (List ℕ)
@@ -63,42 +66,43 @@ yes_or_no = either (word (codes "yes")) (word (codes "no"))
 -- S, a word, Eq and a value in quotes
 abbrev pub pseudo_attribute : {A : Type 0} → List ℕ → Rule FaultKind A → Rule FaultKind A
 pseudo_attribute w r =
-    keeping_second some_spaces
-    (keeping_second (word w) (keeping_second equals (quoted is_quote (λ _. r))))
+    keep_second required_spaces
+    (keep_second (word w) (keep_second equals (quoted is_quote (λ _. r))))
 
 -- [23] XMLDecl: `<?xml`, the version, optionally the encoding, optionally whether it is
 -- standalone, S?, `?>`. Its value is the encoding.
 abbrev pub xml_declaration : Rule FaultKind (Option (List ℕ))
 xml_declaration =
-    keeping_second (word (codes "<?xml"))
-    (keeping_second (pseudo_attribute (codes "version") version_number)
-    (keeping_first (optional (pseudo_attribute (codes "encoding") encoding_name))
-    (keeping_second (optional (pseudo_attribute (codes "standalone") yes_or_no))
-    (keeping_second spaces (word (codes "?>"))))))
+    keep_second (word (codes "<?xml"))
+    (keep_second (pseudo_attribute (codes "version") version_number)
+    (keep_first (optional (pseudo_attribute (codes "encoding") encoding_name))
+    (keep_second (optional (pseudo_attribute (codes "standalone") yes_or_no))
+    (keep_second spaces (word (codes "?>"))))))
 
 -- an encoding that is read, ignoring ASCII case
-abbrev pub is_our_encoding : List ℕ → Bool
-is_our_encoding e = same_letters e (codes "utf-8") || same_letters e (codes "us-ascii")
+abbrev pub is_supported_encoding : List ℕ → Bool
+is_supported_encoding e =
+    equals_ignoring_case e (codes "utf-8") || equals_ignoring_case e (codes "us-ascii")
 
 -- A whole XML declaration of another encoding marks its `?>`.
-abbrev pub IsForeign : Option (List ℕ) → FaultKind → ℕ → Type 0
-IsForeign e kind back =
-    (n : List ℕ) × (e ≡ Some n) × (is_our_encoding n ≡ false) × (kind ≡ Encoded) × (back ≡ 2)
+abbrev pub MarksUnsupportedEncoding : Option (List ℕ) → FaultKind → ℕ → Type 0
+MarksUnsupportedEncoding e kind back =
+    (n : List ℕ) × (e ≡ Some n) × (is_supported_encoding n ≡ false) × (kind ≡ Encoded) × (back ≡ 2)
 
 -- ---- around the root element
 
 -- [27] Misc: comments and instructions, with optional white space around each; outside the root
 -- element they spell nothing
 abbrev pub misc : Rule FaultKind (Unit {0})
-misc = either (dropped comment) instruction
+misc = either (without_value comment) processing_instruction
 
-abbrev pub miscs : Rule FaultKind (Unit {0}) → Rule FaultKind (Unit {0})
-miscs one_more = dropped (between (dropped spaces) one_more)
+abbrev pub misc_list : Rule FaultKind (Unit {0}) → Rule FaultKind (Unit {0})
+misc_list one_more = without_value (between_gaps (without_value spaces) one_more)
 
 -- [22] prolog, without the XML declaration: `<!` before the root element is marked, where
 -- `DOCTYPE` follows
 abbrev pub prolog : Rule FaultKind (Unit {0})
-prolog = miscs (either (trap Doctyped (codes "<!") (codes "DOCTYPE")) misc)
+prolog = misc_list (either (refused_word Doctyped (codes "<!") (codes "DOCTYPE")) misc)
 
 abbrev pub epilog : Rule FaultKind (Unit {0})
-epilog = miscs misc
+epilog = misc_list misc

@@ -8,5 +8,5 @@
 mod markup;
 mod xml_declaration;
 
-pub use markup::{comment, epilog, instruction, prolog, section};
-pub use xml_declaration::{declaration_if, mark_if};
+pub use markup::{cdata_section, comment, epilog, processing_instruction, prolog};
+pub use xml_declaration::{optional_declaration, skip_bom};

@@ -1,28 +1,31 @@
 //! Markup between runs of characters: comments, CDATA sections and processing instructions.
 ghost use Rattle.std.specs.Prelude.{◌≡◌, true, chars, IfOk, Ok};
-ghost use Rattle.xml_grammar.specs.TextReading.{starts};
+ghost use Rattle.xml_grammar.specs.TextReading.{starts_with_word};
 ghost use Rattle.xml_names.specs.Characters.{is_space};
 ghost use Rattle.xml_names.specs.Comments.{is_comment};
-ghost use Rattle.xml_tokens.specs.readers.Results.{Gives};
-ghost use Rattle.xml_tokens.specs.Values.{line_ends};
-ghost use Rattle.xml_markup.specs.Grammar.{is_target};
-ghost use Rattle.xml_markup.specs.readers.Markup.{misc_follows, less_follows, read_comment_inside};
-ghost use Rattle.xml_markup.specs.readers.Markup.{read_comment, read_section, read_instructed};
-ghost use Rattle.xml_markup.specs.readers.Markup.{read_instruction, read_misc, read_prolog_misc};
+ghost use Rattle.xml_tokens.specs.readers.ReadResults.{IsSameResult};
+ghost use Rattle.xml_tokens.specs.Values.{normalize_line_ends};
+ghost use Rattle.xml_markup.specs.Grammar.{is_pi_target};
+ghost use Rattle.xml_markup.specs.readers.Markup.{misc_follows, less_follows, read_comment_text};
+ghost use Rattle.xml_markup.specs.readers.Markup.{read_comment, read_cdata_section, read_pi_rest};
+ghost use Rattle.xml_markup.specs.readers.Markup.{read_processing_instruction, read_misc};
+ghost use Rattle.xml_markup.specs.readers.Markup.{read_prolog_misc};
 ghost use Rattle.xml_markup.specs.readers.Markup.{read_prolog, read_epilog};
 
 use std::alloc::Global;
-use xml_grammar::{is_first, split_first};
+use xml_grammar::{split_first, starts_with_char};
 use xml_names::{Text, is_space};
 use xml_tokens::{
-    FaultKind, ParseError, letter, lines, name, same_letters, spaces, starts, up_to, word,
+    FaultKind, ParseError, equals_ignoring_case, letter, name, normalize_lines, spaces,
+    starts_with_word, up_to, word,
 };
 
 /// The inside of a comment, and what follows the comment.
-fn comment_inside(text: &str) -> Result<(&str, &str), ParseError<'_>>
-    ensures reads_rule { Gives (λ x. (chars x.0.now, chars x.1.now)) result
-        (read_comment_inside (chars text.now)) }
-    ensures keepable_comment { IfOk result (λ x. is_comment (line_ends (chars x.0.now)) ≡ true) }
+fn comment_text(text: &str) -> Result<(&str, &str), ParseError<'_>>
+    ensures reads_rule { IsSameResult (λ x. (chars x.0.now, chars x.1.now)) result
+        (read_comment_text (chars text.now)) }
+    ensures keepable_comment { IfOk result
+        (λ x. is_comment (normalize_line_ends (chars x.0.now)) ≡ true) }
 {
     let rest = word(text, &['<', '!', '-', '-'])?;
     let (inside, rest) = up_to(rest, &['-', '-'])?;
@@ -31,33 +34,35 @@ fn comment_inside(text: &str) -> Result<(&str, &str), ParseError<'_>>
 
 /// A comment, and what follows it.
 pub fn comment(alloc: Global, text: &str) -> Result<(Text, &str), ParseError<'_>>
-    ensures reads_rule { Gives (λ x. (x.0, chars x.1.now)) result (read_comment (chars text.now)) }
+    ensures reads_rule { IsSameResult (λ x. (x.0, chars x.1.now)) result
+        (read_comment (chars text.now)) }
     ensures keepable_comment { IfOk result (λ x. is_comment x.0 ≡ true) }
 {
-    let (inside, rest) = comment_inside(text)?;
-    Ok((lines(alloc, inside)?, rest))
+    let (inside, rest) = comment_text(text)?;
+    Ok((normalize_lines(alloc, inside)?, rest))
 }
 
 /// A CDATA section, and what follows it.
-pub fn section(alloc: Global, text: &str) -> Result<(Text, &str), ParseError<'_>>
-    ensures reads_rule { Gives (λ x. (x.0, chars x.1.now)) result (read_section (chars text.now)) }
+pub fn cdata_section(alloc: Global, text: &str) -> Result<(Text, &str), ParseError<'_>>
+    ensures reads_rule { IsSameResult (λ x. (x.0, chars x.1.now)) result
+        (read_cdata_section (chars text.now)) }
 {
     let rest = word(text, &['<', '!', '[', 'C', 'D', 'A', 'T', 'A', '['])?;
     let (inside, rest) = up_to(rest, &[']', ']', '>'])?;
-    Ok((lines(alloc, inside)?, rest))
+    Ok((normalize_lines(alloc, inside)?, rest))
 }
 
 /// Whether a name may be the target of an instruction.
-fn is_target(name: &str) -> bool
-    ensures exact { result ≡ is_target (chars name.now) }
+fn is_pi_target(name: &str) -> bool
+    ensures exact { result ≡ is_pi_target (chars name.now) }
 {
-    !same_letters(name, &['x', 'm', 'l'])
+    !equals_ignoring_case(name, &['x', 'm', 'l'])
 }
 
 /// What follows the rest of an instruction after its target.
 fn skip_instruction(text: &str) -> Result<&str, ParseError<'_>>
-    ensures reads_rule { Gives (λ rest. (tt, chars rest.now)) result
-        (read_instructed (chars text.now)) }
+    ensures reads_rule { IsSameResult (λ rest. (tt, chars rest.now)) result
+        (read_pi_rest (chars text.now)) }
 {
     match split_first(text) {
         Some((first, rest)) => {
@@ -72,13 +77,13 @@ fn skip_instruction(text: &str) -> Result<&str, ParseError<'_>>
 }
 
 /// What follows a processing instruction.
-pub fn instruction(text: &str) -> Result<&str, ParseError<'_>>
-    ensures reads_rule { Gives (λ rest. (tt, chars rest.now)) result
-        (read_instruction (chars text.now)) }
+pub fn processing_instruction(text: &str) -> Result<&str, ParseError<'_>>
+    ensures reads_rule { IsSameResult (λ rest. (tt, chars rest.now)) result
+        (read_processing_instruction (chars text.now)) }
 {
     let rest = word(text, &['<', '?'])?;
     let (target, rest) = name(rest)?;
-    if !is_target(target) {
+    if !is_pi_target(target) {
         return Err(ParseError::Syntax(rest));
     }
     skip_instruction(rest)
@@ -86,32 +91,33 @@ pub fn instruction(text: &str) -> Result<&str, ParseError<'_>>
 
 /// What follows a comment or an instruction.
 fn misc(text: &str) -> Result<&str, ParseError<'_>>
-    ensures reads_rule { Gives (λ rest. (tt, chars rest.now)) result (read_misc (chars text.now)) }
+    ensures reads_rule { IsSameResult (λ rest. (tt, chars rest.now)) result
+        (read_misc (chars text.now)) }
 {
-    if starts(text, &['<', '!']) {
-        let (_, rest) = comment_inside(text)?;
+    if starts_with_word(text, &['<', '!']) {
+        let (_, rest) = comment_text(text)?;
         return Ok(rest);
     }
-    instruction(text)
+    processing_instruction(text)
 }
 
 /// Whether a comment or an instruction follows.
 fn misc_follows(text: &str) -> bool
     ensures exact { result ≡ misc_follows (chars text.now) }
 {
-    if starts(text, &['<', '!']) {
+    if starts_with_word(text, &['<', '!']) {
         return true;
     }
-    starts(text, &['<', '?'])
+    starts_with_word(text, &['<', '?'])
 }
 
 /// What follows a comment or an instruction before the root element, where no document type is
 /// allowed.
 fn prolog_misc(text: &str) -> Result<&str, ParseError<'_>>
-    ensures reads_rule { Gives (λ rest. (tt, chars rest.now)) result
+    ensures reads_rule { IsSameResult (λ rest. (tt, chars rest.now)) result
         (read_prolog_misc (chars text.now)) }
 {
-    if starts(text, &['<', '!', 'D', 'O', 'C', 'T', 'Y', 'P', 'E']) {
+    if starts_with_word(text, &['<', '!', 'D', 'O', 'C', 'T', 'Y', 'P', 'E']) {
         return Err(ParseError::Faulty(FaultKind::Doctyped, text));
     }
     misc(text)
@@ -119,7 +125,7 @@ fn prolog_misc(text: &str) -> Result<&str, ParseError<'_>>
 
 /// What follows white space, comments and instructions before the root element.
 pub fn prolog(text: &str) -> Result<&str, ParseError<'_>>
-    ensures reads_rule { Gives (λ rest. (tt, chars rest.now)) result
+    ensures reads_rule { IsSameResult (λ rest. (tt, chars rest.now)) result
         (read_prolog (chars text.now)) }
 {
     let (_, start) = spaces(text);
@@ -140,12 +146,12 @@ pub fn prolog(text: &str) -> Result<&str, ParseError<'_>>
 fn less_follows(text: &str) -> bool
     ensures exact { result ≡ less_follows (chars text.now) }
 {
-    is_first(text, '<')
+    starts_with_char(text, '<')
 }
 
 /// What follows white space, comments and instructions after the root element.
 pub fn epilog(text: &str) -> Result<&str, ParseError<'_>>
-    ensures reads_rule { Gives (λ rest. (tt, chars rest.now)) result
+    ensures reads_rule { IsSameResult (λ rest. (tt, chars rest.now)) result
         (read_epilog (chars text.now)) }
 {
     let (_, start) = spaces(text);

@@ -1,25 +1,26 @@
 //! The XML declaration and the byte order mark, which may begin a document.
 ghost use Rattle.std.specs.Prelude.{◌≡◌, chars, option_map, Ok};
 ghost use Rattle.std.specs.Char.{is_ascii_alphabetic};
-ghost use Rattle.xml_grammar.specs.TextReading.{head_is};
-ghost use Rattle.xml_tokens.specs.readers.Results.{Gives};
-ghost use Rattle.xml_markup.specs.Grammar.{is_our_encoding};
+ghost use Rattle.xml_grammar.specs.TextReading.{first_char_is};
+ghost use Rattle.xml_tokens.specs.readers.ReadResults.{IsSameResult};
+ghost use Rattle.xml_markup.specs.Grammar.{is_supported_encoding};
 ghost use Rattle.xml_markup.specs.readers.Markup.{letter_follows, read_version_number};
 ghost use Rattle.xml_markup.specs.readers.Markup.{read_encoding_name, read_yes_or_no, read_version};
-ghost use Rattle.xml_markup.specs.readers.Markup.{read_encoding, read_standalone, read_encoding_if};
-ghost use Rattle.xml_markup.specs.readers.Markup.{read_standalone_if, read_xml_declaration};
+ghost use Rattle.xml_markup.specs.readers.Markup.{read_encoding, read_standalone};
+ghost use Rattle.xml_markup.specs.readers.Markup.{read_optional_encoding};
+ghost use Rattle.xml_markup.specs.readers.Markup.{read_optional_standalone, read_xml_declaration};
 ghost use Rattle.xml_markup.specs.readers.Markup.{declaration_follows, read_declaration};
-ghost use Rattle.xml_markup.specs.readers.Markup.{read_declaration_if, read_mark_if};
+ghost use Rattle.xml_markup.specs.readers.Markup.{read_optional_declaration, read_optional_bom};
 
-use xml_grammar::{is_first, split_first};
+use xml_grammar::{split_first, starts_with_char};
 use xml_tokens::{
-    Class, FaultKind, ParseError, after_word, before, digits, equals, is_letter, is_space_next,
-    letter, quote, run, same_letters, some_spaces, spaces, word,
+    Class, FaultKind, ParseError, digits, equals, equals_ignoring_case, is_letter, is_space_next,
+    letter, quote, required_spaces, rest_before, run, spaces, strip_word, word,
 };
 
 /// What follows a version number.
 fn version_number(text: &str) -> Result<&str, ParseError<'_>>
-    ensures reads_rule { Gives (λ rest. (tt, chars rest.now)) result
+    ensures reads_rule { IsSameResult (λ rest. (tt, chars rest.now)) result
         (read_version_number (chars text.now)) }
 {
     let rest = word(text, &['1', '.'])?;
@@ -29,7 +30,7 @@ fn version_number(text: &str) -> Result<&str, ParseError<'_>>
 
 /// Whether a text begins with a letter.
 fn starts_with_letter(text: &str) -> bool
-    ensures exact { result ≡ head_is is_ascii_alphabetic (chars text.now) }
+    ensures exact { result ≡ first_char_is is_ascii_alphabetic (chars text.now) }
 {
     match split_first(text) {
         Some((first, _)) => is_letter(first),
@@ -39,7 +40,7 @@ fn starts_with_letter(text: &str) -> bool
 
 /// The name of an encoding, and what follows it.
 fn encoding_name(text: &str) -> Result<(&str, &str), ParseError<'_>>
-    ensures reads_rule { Gives (λ x. (chars x.0.now, chars x.1.now)) result
+    ensures reads_rule { IsSameResult (λ x. (chars x.0.now, chars x.1.now)) result
         (read_encoding_name (chars text.now)) }
 {
     if !starts_with_letter(text) {
@@ -50,10 +51,10 @@ fn encoding_name(text: &str) -> Result<(&str, &str), ParseError<'_>>
 
 /// What follows `yes` or `no`.
 fn yes_or_no(text: &str) -> Result<&str, ParseError<'_>>
-    ensures reads_rule { Gives (λ rest. (tt, chars rest.now)) result
+    ensures reads_rule { IsSameResult (λ rest. (tt, chars rest.now)) result
         (read_yes_or_no (chars text.now)) }
 {
-    if is_first(text, 'y') {
+    if starts_with_char(text, 'y') {
         return word(text, &['y', 'e', 's']);
     }
     word(text, &['n', 'o'])
@@ -61,10 +62,10 @@ fn yes_or_no(text: &str) -> Result<&str, ParseError<'_>>
 
 /// What follows the version.
 fn version(text: &str) -> Result<&str, ParseError<'_>>
-    ensures reads_rule { Gives (λ rest. (tt, chars rest.now)) result
+    ensures reads_rule { IsSameResult (λ rest. (tt, chars rest.now)) result
         (read_version (chars text.now)) }
 {
-    let (_, rest) = some_spaces(text)?;
+    let (_, rest) = required_spaces(text)?;
     let rest = word(rest, &['v', 'e', 'r', 's', 'i', 'o', 'n'])?;
     let (_, rest) = equals(rest)?;
     let (quote, rest) = quote(rest)?;
@@ -74,10 +75,10 @@ fn version(text: &str) -> Result<&str, ParseError<'_>>
 
 /// The declared encoding, and what follows it.
 fn encoding(text: &str) -> Result<(&str, &str), ParseError<'_>>
-    ensures reads_rule { Gives (λ x. (chars x.0.now, chars x.1.now)) result
+    ensures reads_rule { IsSameResult (λ x. (chars x.0.now, chars x.1.now)) result
         (read_encoding (chars text.now)) }
 {
-    let (_, rest) = some_spaces(text)?;
+    let (_, rest) = required_spaces(text)?;
     let rest = word(rest, &['e', 'n', 'c', 'o', 'd', 'i', 'n', 'g'])?;
     let (_, rest) = equals(rest)?;
     let (quote, rest) = quote(rest)?;
@@ -87,10 +88,10 @@ fn encoding(text: &str) -> Result<(&str, &str), ParseError<'_>>
 
 /// What follows the standalone declaration.
 fn standalone(text: &str) -> Result<&str, ParseError<'_>>
-    ensures reads_rule { Gives (λ rest. (tt, chars rest.now)) result
+    ensures reads_rule { IsSameResult (λ rest. (tt, chars rest.now)) result
         (read_standalone (chars text.now)) }
 {
-    let (_, rest) = some_spaces(text)?;
+    let (_, rest) = required_spaces(text)?;
     let rest = word(rest, &['s', 't', 'a', 'n', 'd', 'a', 'l', 'o', 'n', 'e'])?;
     let (_, rest) = equals(rest)?;
     let (quote, rest) = quote(rest)?;
@@ -106,14 +107,14 @@ fn letter_follows(text: &str, letter: char) -> bool
         return false;
     }
     let (_, rest) = spaces(text);
-    is_first(rest, letter)
+    starts_with_char(rest, letter)
 }
 
 /// The declared encoding, if there is one, and what follows it.
-fn encoding_if(text: &str) -> Result<(Option<&str>, &str), ParseError<'_>>
-    ensures reads_rule { Gives
+fn optional_encoding(text: &str) -> Result<(Option<&str>, &str), ParseError<'_>>
+    ensures reads_rule { IsSameResult
         (λ x. (option_map (λ name. chars name.now) x.0, chars x.1.now)) result
-        (read_encoding_if (chars text.now)) }
+        (read_optional_encoding (chars text.now)) }
 {
     if !letter_follows(text, 'e') {
         return Ok((None, text));
@@ -123,9 +124,9 @@ fn encoding_if(text: &str) -> Result<(Option<&str>, &str), ParseError<'_>>
 }
 
 /// Whether there is a standalone declaration, and what follows it.
-fn standalone_if(text: &str) -> Result<(Option<()>, &str), ParseError<'_>>
-    ensures reads_rule { Gives (λ x. (x.0, chars x.1.now)) result
-        (read_standalone_if (chars text.now)) }
+fn optional_standalone(text: &str) -> Result<(Option<()>, &str), ParseError<'_>>
+    ensures reads_rule { IsSameResult (λ x. (x.0, chars x.1.now)) result
+        (read_optional_standalone (chars text.now)) }
 {
     if !letter_follows(text, 's') {
         return Ok((None, text));
@@ -136,39 +137,39 @@ fn standalone_if(text: &str) -> Result<(Option<()>, &str), ParseError<'_>>
 
 /// An XML declaration: the encoding that it names, if any, and what follows it.
 fn xml_declaration(text: &str) -> Result<(Option<&str>, &str), ParseError<'_>>
-    ensures reads_rule { Gives
+    ensures reads_rule { IsSameResult
         (λ x. (option_map (λ name. chars name.now) x.0, chars x.1.now)) result
         (read_xml_declaration (chars text.now)) }
 {
     let rest = word(text, &['<', '?', 'x', 'm', 'l'])?;
     let rest = version(rest)?;
-    let (name, rest) = encoding_if(rest)?;
-    let (_, rest) = standalone_if(rest)?;
+    let (name, rest) = optional_encoding(rest)?;
+    let (_, rest) = optional_standalone(rest)?;
     let (_, rest) = spaces(rest);
     Ok((name, word(rest, &['?', '>'])?))
 }
 
 /// Whether an encoding is read.
-fn is_our_encoding(name: &str) -> bool
-    ensures exact { result ≡ is_our_encoding (chars name.now) }
+fn is_supported_encoding(name: &str) -> bool
+    ensures exact { result ≡ is_supported_encoding (chars name.now) }
 {
-    if same_letters(name, &['u', 't', 'f', '-', '8']) {
+    if equals_ignoring_case(name, &['u', 't', 'f', '-', '8']) {
         return true;
     }
-    same_letters(name, &['u', 's', '-', 'a', 's', 'c', 'i', 'i'])
+    equals_ignoring_case(name, &['u', 's', '-', 'a', 's', 'c', 'i', 'i'])
 }
 
 /// An XML declaration whose encoding is read, and what follows it.
 fn declaration(text: &str) -> Result<(Option<&str>, &str), ParseError<'_>>
-    ensures reads_rule { Gives
+    ensures reads_rule { IsSameResult
         (λ x. (option_map (λ name. chars name.now) x.0, chars x.1.now)) result
         (read_declaration (chars text.now)) }
 {
     let (name, rest) = xml_declaration(text)?;
     match name {
         Some(name) => {
-            if !is_our_encoding(name) {
-                return Err(ParseError::Faulty(FaultKind::Encoded, before(text, rest, 2)));
+            if !is_supported_encoding(name) {
+                return Err(ParseError::Faulty(FaultKind::Encoded, rest_before(text, rest, 2)));
             }
             Ok((Some(name), rest))
         }
@@ -180,7 +181,7 @@ fn declaration(text: &str) -> Result<(Option<&str>, &str), ParseError<'_>>
 fn declaration_follows(text: &str) -> bool
     ensures exact { result ≡ declaration_follows (chars text.now) }
 {
-    match after_word(text, &['<', '?', 'x', 'm', 'l']) {
+    match strip_word(text, &['<', '?', 'x', 'm', 'l']) {
         Some(rest) => is_space_next(rest),
         None => false,
     }
@@ -191,9 +192,9 @@ fn declaration_follows(text: &str) -> bool
 /// # Errors
 /// The stop of the rule, with the rest of the text there: `Encoded` for another encoding than UTF-8
 /// and US-ASCII.
-pub fn declaration_if(text: &str) -> Result<&str, ParseError<'_>>
-    ensures reads_rule { Gives (λ rest. (tt, chars rest.now)) result
-        (read_declaration_if (chars text.now)) }
+pub fn optional_declaration(text: &str) -> Result<&str, ParseError<'_>>
+    ensures reads_rule { IsSameResult (λ rest. (tt, chars rest.now)) result
+        (read_optional_declaration (chars text.now)) }
 {
     if !declaration_follows(text) {
         return Ok(text);
@@ -203,8 +204,8 @@ pub fn declaration_if(text: &str) -> Result<&str, ParseError<'_>>
 }
 
 /// What follows a byte order mark, which is optional.
-pub fn mark_if(text: &str) -> &str
-    ensures reads_rule { read_mark_if (chars text.now) ≡ Ok (tt, chars result.now) }
+pub fn skip_bom(text: &str) -> &str
+    ensures reads_rule { read_optional_bom (chars text.now) ≡ Ok (tt, chars result.now) }
 {
     match split_first(text) {
         Some((first, rest)) => {

@@ -6,9 +6,9 @@ use Rattle.std.specs.List.{AllByRecursion, cons_option, list_any}
 use Rattle.std.specs.Option.{option_or}
 use Rattle.std.specs.Ordering.{is_lt, ordering_reverse}
 use Rattle.xml_names.specs.declared.names.Decl.{Decl}
-use Rattle.xml_names.specs.Scopes.{AreInOrder, binding, bindings_in, binds, bound, decl_of, declared_uri, in_order, is_before, joined, some_text, xml_prefix, xml_uri}
-use Rattle.xml_names.specs.inner.DeclarationMaps.{gathered_bindings}
-use Rattle.xml_names.proofs.BindingLaws.{Behind, gathered_bindings-sole}
+use Rattle.xml_names.specs.Scopes.{AreSortedByPrefix, binding, in_scope_bindings, binds_prefix, bound_uri, decl_from_parts, declared_uri, sorted_distinct, sorts_before, scope_decls, non_empty_uri, xml_prefix, xml_uri}
+use Rattle.xml_names.specs.inner.DeclarationMaps.{sorted_bindings}
+use Rattle.xml_names.proofs.BindingLaws.{Behind, sorted_bindings-sole}
 use Rattle.xml_names.proofs.ByteOrder.{order, order_equal}
 use Rattle.xml_names.proofs.ScopeLemmas.{option_or-none}
 
@@ -49,21 +49,21 @@ rises-filter : (f : List ℕ → Bool) (qs : List (List ℕ)) → Rises qs → R
 rises-filter f [] r = tt
 rises-filter f (q ∷ qs) r = rises-step q (filter f qs) (f q) (above-filter f q qs r.0) (rises-filter f qs r.1)
 
-below-step : (p q : List ℕ) (qs : List (List ℕ)) (b : Bool) → is_before q p ≡ b → Below p qs → Below p (cond b (q ∷ qs) qs)
+below-step : (p q : List ℕ) (qs : List (List ℕ)) (b : Bool) → sorts_before q p ≡ b → Below p qs → Below p (cond b (q ∷ qs) qs)
 below-step p q qs true h a = (less-is (order q p) h, a)
 below-step p q qs false h a = a
 
-below-filter : (p : List ℕ) (qs : List (List ℕ)) → Below p (filter (λ q. is_before q p) qs)
+below-filter : (p : List ℕ) (qs : List (List ℕ)) → Below p (filter (λ q. sorts_before q p) qs)
 below-filter p [] = tt
-below-filter p (q ∷ qs) = below-step p q (filter (λ q. is_before q p) qs) (is_before q p) refl (below-filter p qs)
+below-filter p (q ∷ qs) = below-step p q (filter (λ q. sorts_before q p) qs) (sorts_before q p) refl (below-filter p qs)
 
-behind-step : (p q : List ℕ) (qs : List (List ℕ)) (b : Bool) → is_before p q ≡ b → Above p qs → Above p (cond b (q ∷ qs) qs)
+behind-step : (p q : List ℕ) (qs : List (List ℕ)) (b : Bool) → sorts_before p q ≡ b → Above p qs → Above p (cond b (q ∷ qs) qs)
 behind-step p q qs true h a = (less-is (order p q) h, a)
 behind-step p q qs false h a = a
 
-behind-filter : (p : List ℕ) (qs : List (List ℕ)) → Above p (filter (λ q. is_before p q) qs)
+behind-filter : (p : List ℕ) (qs : List (List ℕ)) → Above p (filter (λ q. sorts_before p q) qs)
 behind-filter p [] = tt
-behind-filter p (q ∷ qs) = behind-step p q (filter (λ q. is_before p q) qs) (is_before p q) refl (behind-filter p qs)
+behind-filter p (q ∷ qs) = behind-step p q (filter (λ q. sorts_before p q) qs) (sorts_before p q) refl (behind-filter p qs)
 
 above-further : (p q : List ℕ) (qs : List (List ℕ)) → order p q ≡ Less → Above q qs → Above p qs
 above-further p q [] h a = tt
@@ -77,12 +77,12 @@ rises-append : (p : List ℕ) (xs ys : List (List ℕ)) → Rises xs → Below p
 rises-append p [] ys r b a s = (a, s)
 rises-append p (x ∷ xs) ys r b a s = (above-append x p xs ys r.0 b.0 a, rises-append p xs ys r.1 b.1 a s)
 
-in_order-rises : (ps : List (List ℕ)) → Rises (in_order ps)
-in_order-rises [] = tt
-in_order-rises (p ∷ ps) =
-    let rest = in_order-rises ps in
-    rises-append p (filter (λ q. is_before q p) (in_order ps)) (filter (λ q. is_before p q) (in_order ps))
-    (rises-filter (λ q. is_before q p) (in_order ps) rest) (below-filter p (in_order ps)) (behind-filter p (in_order ps)) (rises-filter (λ q. is_before p q) (in_order ps) rest)
+sorted_distinct-rises : (ps : List (List ℕ)) → Rises (sorted_distinct ps)
+sorted_distinct-rises [] = tt
+sorted_distinct-rises (p ∷ ps) =
+    let rest = sorted_distinct-rises ps in
+    rises-append p (filter (λ q. sorts_before q p) (sorted_distinct ps)) (filter (λ q. sorts_before p q) (sorted_distinct ps))
+    (rises-filter (λ q. sorts_before q p) (sorted_distinct ps) rest) (below-filter p (sorted_distinct ps)) (behind-filter p (sorted_distinct ps)) (rises-filter (λ q. sorts_before p q) (sorted_distinct ps) rest)
 
 -- ---- which texts these are
 
@@ -119,38 +119,38 @@ both-ways false true = refl
 both-ways false false = refl
 
 -- p is among those before q, or is q, or is among those after it
-among : (p q : List ℕ) (m t : Bool) (o : Ordering) → order p q ≡ o → bytes_eq q p ≡ t → ((is_before p q && m) || (t || (is_before q p && m))) ≡ (t || m)
+among : (p q : List ℕ) (m t : Bool) (o : Ordering) → order p q ≡ o → bytes_eq q p ≡ t → ((sorts_before p q && m) || (t || (sorts_before q p && m))) ≡ (t || m)
 among p q m t Less h e =
-    ap (λ (o : Ordering). (is_lt o && m) || (t || (is_before q p && m))) h ∙ ap (λ (o : Ordering). m || (t || (is_lt o && m))) (turned p q Less h) ∙ both-ways m t
+    ap (λ (o : Ordering). (is_lt o && m) || (t || (sorts_before q p && m))) h ∙ ap (λ (o : Ordering). m || (t || (is_lt o && m))) (turned p q Less h) ∙ both-ways m t
 among p q m t Greater h e =
-    ap (λ (o : Ordering). (is_lt o && m) || (t || (is_before q p && m))) h ∙ ap (λ (o : Ordering). t || (is_lt o && m)) (turned p q Greater h)
-among p q m true Equal h e = ap (λ (o : Ordering). (is_lt o && m) || (true || (is_before q p && m))) h
+    ap (λ (o : Ordering). (is_lt o && m) || (t || (sorts_before q p && m))) h ∙ ap (λ (o : Ordering). t || (is_lt o && m)) (turned p q Greater h)
+among p q m true Equal h e = ap (λ (o : Ordering). (is_lt o && m) || (true || (sorts_before q p && m))) h
 among p q m false Equal h e = let clash : true ≡ false = sym ((bytes_decides q p).1 (sym (order_equal p q h))) ∙ e in cc
 
-in-order-in : (p : List ℕ) (qs : List (List ℕ)) → is_in p (in_order qs) ≡ is_in p qs
+in-order-in : (p : List ℕ) (qs : List (List ℕ)) → is_in p (sorted_distinct qs) ≡ is_in p qs
 in-order-in p [] = refl
 in-order-in p (q ∷ qs) =
-    let before = filter (λ x. is_before x q) (in_order qs) in
-    let behind = filter (λ x. is_before q x) (in_order qs) in
+    let before = filter (λ x. sorts_before x q) (sorted_distinct qs) in
+    let behind = filter (λ x. sorts_before q x) (sorted_distinct qs) in
     in-append p before (q ∷ behind)
-    ∙ ap (λ (b : Bool). b || (bytes_eq q p || is_in p behind)) (in-filter (λ x. is_before x q) p (is_before p q) refl (in_order qs))
-    ∙ ap (λ (b : Bool). (is_before p q && is_in p (in_order qs)) || (bytes_eq q p || b)) (in-filter (λ x. is_before q x) p (is_before q p) refl (in_order qs))
-    ∙ among p q (is_in p (in_order qs)) (bytes_eq q p) (order p q) refl refl
+    ∙ ap (λ (b : Bool). b || (bytes_eq q p || is_in p behind)) (in-filter (λ x. sorts_before x q) p (sorts_before p q) refl (sorted_distinct qs))
+    ∙ ap (λ (b : Bool). (sorts_before p q && is_in p (sorted_distinct qs)) || (bytes_eq q p || b)) (in-filter (λ x. sorts_before q x) p (sorts_before q p) refl (sorted_distinct qs))
+    ∙ among p q (is_in p (sorted_distinct qs)) (bytes_eq q p) (order p q) refl refl
     ∙ ap (λ (b : Bool). bytes_eq q p || b) (in-order-in p qs)
 
 -- ---- one binding
 
 -- a binding has its prefix, and binds
-made : (q : List ℕ) (o : Option (List ℕ)) (d : Decl) (b : Bool) → bytes_eq q xml_prefix ≡ b → cond b None (option_map (decl_of q) (cond b (Some xml_uri) (some_text o))) ≡ Some d → (d.prefix ≡ q) × IsTrue (binds d)
+made : (q : List ℕ) (o : Option (List ℕ)) (d : Decl) (b : Bool) → bytes_eq q xml_prefix ≡ b → cond b None (option_map (decl_from_parts q) (cond b (Some xml_uri) (non_empty_uri o))) ≡ Some d → (d.prefix ≡ q) × IsTrue (binds_prefix d)
 made q o d true e h = cc
 made q None d false e h = cc
 made q (Some []) d false e h = cc
 made q (Some (x ∷ xs)) d false e h =
-    let is : decl_of q (x ∷ xs) ≡ d = same_Some {A = Decl} (decl_of q (x ∷ xs)) d h in
-    (ap (λ (t : Decl). t.prefix) (sym is), subst (λ (t : Decl). IsTrue (binds t)) is (ap not e))
+    let is : decl_from_parts q (x ∷ xs) ≡ d = same_Some {A = Decl} (decl_from_parts q (x ∷ xs)) d h in
+    (ap (λ (t : Decl). t.prefix) (sym is), subst (λ (t : Decl). IsTrue (binds_prefix t)) is (ap not e))
 
-binding-is : (c : List (List Decl)) (q : List ℕ) (d : Decl) → binding c q ≡ Some d → (d.prefix ≡ q) × IsTrue (binds d)
-binding-is c q d h = made q (declared_uri (joined c) q) d (bytes_eq q xml_prefix) refl h
+binding-is : (c : List (List Decl)) (q : List ℕ) (d : Decl) → binding c q ≡ Some d → (d.prefix ≡ q) × IsTrue (binds_prefix d)
+binding-is c q d h = made q (declared_uri (scope_decls c) q) d (bytes_eq q xml_prefix) refl h
 
 -- ---- the bindings of these prefixes
 
@@ -165,27 +165,27 @@ behind-told : (c : List (List Decl)) (p : List ℕ) (qs : List (List ℕ)) → A
 behind-told c p [] a = tt
 behind-told c p (q ∷ qs) a = behind-told-step c p q (told c qs) (binding c q) refl a.0 (behind-told c p qs a.1)
 
-told-in-order-step : (c : List (List Decl)) (q : List ℕ) (rest : List Decl) (o : Option Decl) → binding c q ≡ o → Behind q rest → AreInOrder rest → AreInOrder (cons_option o rest)
+told-in-order-step : (c : List (List Decl)) (q : List ℕ) (rest : List Decl) (o : Option Decl) → binding c q ≡ o → Behind q rest → AreSortedByPrefix rest → AreSortedByPrefix (cons_option o rest)
 told-in-order-step c q rest None e b r = r
 told-in-order-step c q rest (Some d) e b r = (subst (λ (x : List ℕ). Behind x rest) (sym (binding-is c q d e).0) b, r)
 
-told-in-order : (c : List (List Decl)) (qs : List (List ℕ)) → Rises qs → AreInOrder (told c qs)
+told-in-order : (c : List (List Decl)) (qs : List (List ℕ)) → Rises qs → AreSortedByPrefix (told c qs)
 told-in-order c [] r = tt
 told-in-order c (q ∷ qs) r = told-in-order-step c q (told c qs) (binding c q) refl (behind-told c q qs r.0) (told-in-order c qs r.1)
 
-told-binds-step : (c : List (List Decl)) (q : List ℕ) (rest : List Decl) (o : Option Decl) → binding c q ≡ o → AllByRecursion (λ d. IsTrue (binds d)) rest → AllByRecursion (λ d. IsTrue (binds d)) (cons_option o rest)
-told-binds-step c q rest None e r = r
-told-binds-step c q rest (Some d) e r = ((binding-is c q d e).1, r)
+told-binds_prefix-step : (c : List (List Decl)) (q : List ℕ) (rest : List Decl) (o : Option Decl) → binding c q ≡ o → AllByRecursion (λ d. IsTrue (binds_prefix d)) rest → AllByRecursion (λ d. IsTrue (binds_prefix d)) (cons_option o rest)
+told-binds_prefix-step c q rest None e r = r
+told-binds_prefix-step c q rest (Some d) e r = ((binding-is c q d e).1, r)
 
-told-binds : (c : List (List Decl)) (qs : List (List ℕ)) → AllByRecursion (λ d. IsTrue (binds d)) (told c qs)
-told-binds c [] = tt
-told-binds c (q ∷ qs) = told-binds-step c q (told c qs) (binding c q) refl (told-binds c qs)
+told-binds_prefix : (c : List (List Decl)) (qs : List (List ℕ)) → AllByRecursion (λ d. IsTrue (binds_prefix d)) (told c qs)
+told-binds_prefix c [] = tt
+told-binds_prefix c (q ∷ qs) = told-binds_prefix-step c q (told c qs) (binding c q) refl (told-binds_prefix c qs)
 
 abbrev if-in : Bool → Option (List ℕ) → Option (List ℕ)
 if-in is u = cond is u None
 
 -- p is equal to this prefix, or is another one
-here : (p : List ℕ) (rest : List Decl) (m : Bool) (u : Option (List ℕ)) → declared_uri rest p ≡ if-in m u → declared_uri (cons_option (option_map (decl_of p) u) rest) p ≡ u
+here : (p : List ℕ) (rest : List Decl) (m : Bool) (u : Option (List ℕ)) → declared_uri rest p ≡ if-in m u → declared_uri (cons_option (option_map (decl_from_parts p) u) rest) p ≡ u
 here p rest true None h = h
 here p rest false None h = h
 here p rest true (Some x) h = ap (λ (o : Option (List ℕ)). option_or o (cond (bytes_eq p p) (Some x) None)) h
@@ -198,16 +198,16 @@ elsewhere p q rest (Some d) of e =
     ap (λ (b : Bool). option_or (declared_uri rest p) (cond b (Some d.uri) None)) (ap (λ (x : List ℕ). bytes_eq x p) (of d refl) ∙ e) ∙ option_or-none (declared_uri rest p)
 
 module _ (c : List (List Decl)) (p : List ℕ) (other : bytes_eq p xml_prefix ≡ false) where
-  declared-told-step : (q : List ℕ) (qs : List (List ℕ)) (b : Bool) → bytes_eq q p ≡ b → declared_uri (told c qs) p ≡ if-in (is_in p qs) (bound c p) → declared_uri (told c (q ∷ qs)) p ≡ if-in (is_in p (q ∷ qs)) (bound c p)
+  declared-told-step : (q : List ℕ) (qs : List (List ℕ)) (b : Bool) → bytes_eq q p ≡ b → declared_uri (told c qs) p ≡ if-in (is_in p qs) (bound_uri c p) → declared_uri (told c (q ∷ qs)) p ≡ if-in (is_in p (q ∷ qs)) (bound_uri c p)
   declared-told-step q qs true e by =
-      let is : binding c q ≡ option_map (decl_of p) (bound c p) =
-      ap (binding c) ((bytes_decides q p).0 e) ∙ ap (λ (b : Bool). cond b None (option_map (decl_of p) (bound c p))) other in
-      ap (λ (o : Option Decl). declared_uri (cons_option o (told c qs)) p) is ∙ here p (told c qs) (is_in p qs) (bound c p) by
-      ∙ sym (ap (λ (b : Bool). if-in (b || is_in p qs) (bound c p)) e)
+      let is : binding c q ≡ option_map (decl_from_parts p) (bound_uri c p) =
+      ap (binding c) ((bytes_decides q p).0 e) ∙ ap (λ (b : Bool). cond b None (option_map (decl_from_parts p) (bound_uri c p))) other in
+      ap (λ (o : Option Decl). declared_uri (cons_option o (told c qs)) p) is ∙ here p (told c qs) (is_in p qs) (bound_uri c p) by
+      ∙ sym (ap (λ (b : Bool). if-in (b || is_in p qs) (bound_uri c p)) e)
   declared-told-step q qs false e by =
-      elsewhere p q (told c qs) (binding c q) (λ d h. (binding-is c q d h).0) e ∙ by ∙ sym (ap (λ (b : Bool). if-in (b || is_in p qs) (bound c p)) e)
+      elsewhere p q (told c qs) (binding c q) (λ d h. (binding-is c q d h).0) e ∙ by ∙ sym (ap (λ (b : Bool). if-in (b || is_in p qs) (bound_uri c p)) e)
 
-  declared-told : (qs : List (List ℕ)) → declared_uri (told c qs) p ≡ if-in (is_in p qs) (bound c p)
+  declared-told : (qs : List (List ℕ)) → declared_uri (told c qs) p ≡ if-in (is_in p qs) (bound_uri c p)
   declared-told [] = refl
   declared-told (q ∷ qs) = declared-told-step q qs (bytes_eq q p) refl (declared-told qs)
 
@@ -226,41 +226,41 @@ undeclared : (p : List ℕ) (ds : List Decl) → is_in p (prefixes ds) ≡ false
 undeclared p [] h = refl
 undeclared p (d ∷ ds) h = undeclared-step p d ds (bytes_eq d.prefix p) refl h (undeclared p ds)
 
-again : (o : Option (List ℕ)) → some_text (some_text o) ≡ some_text o
+again : (o : Option (List ℕ)) → non_empty_uri (non_empty_uri o) ≡ non_empty_uri o
 again None = refl
 again (Some []) = refl
 again (Some (c ∷ cs)) = refl
 
 module _ (c : List (List Decl)) (p : List ℕ) where
-  bound-plain : (l : List (List Decl)) → bytes_eq p xml_prefix ≡ false → bound l p ≡ some_text (declared_uri (joined l) p)
-  bound-plain l other = ap (λ (b : Bool). cond b (Some xml_uri) (some_text (declared_uri (joined l) p))) other
+  bound_uri-plain : (l : List (List Decl)) → bytes_eq p xml_prefix ≡ false → bound_uri l p ≡ non_empty_uri (declared_uri (scope_decls l) p)
+  bound_uri-plain l other = ap (λ (b : Bool). cond b (Some xml_uri) (non_empty_uri (declared_uri (scope_decls l) p))) other
 
-  same-text : (m : Bool) → bytes_eq p xml_prefix ≡ false → is_in p (prefixes (joined c)) ≡ m → some_text (if-in m (bound c p)) ≡ bound c p
-  same-text true other e = ap some_text (bound-plain c other) ∙ again (declared_uri (joined c) p) ∙ sym (bound-plain c other)
-  same-text false other e = sym (bound-plain c other ∙ ap some_text (undeclared p (joined c) e))
+  same-text : (m : Bool) → bytes_eq p xml_prefix ≡ false → is_in p (prefixes (scope_decls c)) ≡ m → non_empty_uri (if-in m (bound_uri c p)) ≡ bound_uri c p
+  same-text true other e = ap non_empty_uri (bound_uri-plain c other) ∙ again (declared_uri (scope_decls c) p) ∙ sym (bound_uri-plain c other)
+  same-text false other e = sym (bound_uri-plain c other ∙ ap non_empty_uri (undeclared p (scope_decls c) e))
 
-  bound-step : (b : Bool) → bytes_eq p xml_prefix ≡ b → bound (bindings_in c ∷ []) p ≡ bound c p
-  bound-step true is =
-      ap (λ (b : Bool). cond b (Some xml_uri) (some_text (declared_uri (joined (bindings_in c ∷ [])) p))) is
-      ∙ sym (ap (λ (b : Bool). cond b (Some xml_uri) (some_text (declared_uri (joined c) p))) is)
-  bound-step false is =
-      bound-plain (bindings_in c ∷ []) is ∙ ap (λ (l : List Decl). some_text (declared_uri l p)) (append-nil (bindings_in c))
-      ∙ ap some_text (declared-told c p is (in_order (prefixes (joined c))) ∙ ap (λ (b : Bool). if-in b (bound c p)) (in-order-in p (prefixes (joined c))))
-      ∙ same-text (is_in p (prefixes (joined c))) is refl
+  bound_uri-step : (b : Bool) → bytes_eq p xml_prefix ≡ b → bound_uri (in_scope_bindings c ∷ []) p ≡ bound_uri c p
+  bound_uri-step true is =
+      ap (λ (b : Bool). cond b (Some xml_uri) (non_empty_uri (declared_uri (scope_decls (in_scope_bindings c ∷ [])) p))) is
+      ∙ sym (ap (λ (b : Bool). cond b (Some xml_uri) (non_empty_uri (declared_uri (scope_decls c) p))) is)
+  bound_uri-step false is =
+      bound_uri-plain (in_scope_bindings c ∷ []) is ∙ ap (λ (l : List Decl). non_empty_uri (declared_uri l p)) (append-nil (in_scope_bindings c))
+      ∙ ap non_empty_uri (declared-told c p is (sorted_distinct (prefixes (scope_decls c))) ∙ ap (λ (b : Bool). if-in b (bound_uri c p)) (in-order-in p (prefixes (scope_decls c))))
+      ∙ same-text (is_in p (prefixes (scope_decls c))) is refl
 
-pub bound-bindings_in : (c : List (List Decl)) (p : List ℕ) → bound (bindings_in c ∷ []) p ≡ bound c p
-bound-bindings_in c p = bound-step c p (bytes_eq p xml_prefix) refl
+pub bound_uri-in_scope_bindings : (c : List (List Decl)) (p : List ℕ) → bound_uri (in_scope_bindings c ∷ []) p ≡ bound_uri c p
+bound_uri-in_scope_bindings c p = bound_uri-step c p (bytes_eq p xml_prefix) refl
 
-pub AreInOrder-bindings_in : (c : List (List Decl)) → AreInOrder (bindings_in c)
-AreInOrder-bindings_in c = told-in-order c (in_order (prefixes (joined c))) (in_order-rises (prefixes (joined c)))
+pub AreInOrder-in_scope_bindings : (c : List (List Decl)) → AreSortedByPrefix (in_scope_bindings c)
+AreInOrder-in_scope_bindings c = told-in-order c (sorted_distinct (prefixes (scope_decls c))) (sorted_distinct-rises (prefixes (scope_decls c)))
 
-pub binds-bindings_in : (c : List (List Decl)) → AllByRecursion (λ d. IsTrue (binds d)) (bindings_in c)
-binds-bindings_in c = told-binds c (in_order (prefixes (joined c)))
+pub binds_prefix-in_scope_bindings : (c : List (List Decl)) → AllByRecursion (λ d. IsTrue (binds_prefix d)) (in_scope_bindings c)
+binds_prefix-in_scope_bindings c = told-binds_prefix c (sorted_distinct (prefixes (scope_decls c)))
 
 -- the declarations collected of a scope are its bindings
-pub gathered_are : (c : List (List Decl)) → gathered_bindings c ≡ bindings_in c
-gathered_are c = sym (gathered_bindings-sole c (bindings_in c) (AreInOrder-bindings_in c) (binds-bindings_in c) (bound-bindings_in c))
+pub gathered_are : (c : List (List Decl)) → sorted_bindings c ≡ in_scope_bindings c
+gathered_are c = sym (sorted_bindings-sole c (in_scope_bindings c) (AreInOrder-in_scope_bindings c) (binds_prefix-in_scope_bindings c) (bound_uri-in_scope_bindings c))
 
-pub bindings_in-sole : (c : List (List Decl)) (ds : List Decl) → AreInOrder ds → AllByRecursion (λ d. IsTrue (binds d)) ds → ((p : List ℕ) → bound (ds ∷ []) p ≡ bound c p)
-    → ds ≡ bindings_in c
-bindings_in-sole c ds h b alike = gathered_bindings-sole c ds h b alike ∙ gathered_are c
+pub in_scope_bindings-sole : (c : List (List Decl)) (ds : List Decl) → AreSortedByPrefix ds → AllByRecursion (λ d. IsTrue (binds_prefix d)) ds → ((p : List ℕ) → bound_uri (ds ∷ []) p ≡ bound_uri c p)
+    → ds ≡ in_scope_bindings c
+in_scope_bindings-sole c ds h b alike = sorted_bindings-sole c ds h b alike ∙ gathered_are c

@@ -6,20 +6,20 @@ use Rattle.std.specs.Option.{option_or}
 use Rattle.std.specs.Ordering.{is_lt, ordering_index, ordering_reverse}
 use Rattle.std.proofs.lemmas.List.Sorted.{searchable_from_sorted}
 use Rattle.xml_names.specs.declared.names.Decl.{Decl}
-use Rattle.xml_names.specs.inner.DeclarationMaps.{IsIndex}
-use Rattle.xml_names.specs.Scopes.{AreInOrder, declared_uri}
-use Rattle.xml_names.proofs.BindingLaws.{AreInOrder-gathered, declared-gathered, sole}
+use Rattle.xml_names.specs.inner.DeclarationMaps.{IsPrefixIndex}
+use Rattle.xml_names.specs.Scopes.{AreSortedByPrefix, declared_uri}
+use Rattle.xml_names.proofs.BindingLaws.{AreInOrder-with_sorted_decls, declared-with_sorted_decls, sole}
 use Rattle.xml_names.proofs.ByteOrder.{order, order_same, order_equal}
 use Rattle.xml_names.proofs.ScopeLemmas.{option_or-none}
 
 -- ---- an index declares what the declarations declare
-pub in_order : (index ds : List Decl) → IsIndex index ds → AreInOrder index
-in_order index ds (inl none) = subst AreInOrder (sym none) tt
-in_order index ds (inr all) = subst AreInOrder (sym all) (AreInOrder-gathered [] ds tt)
+pub in_order : (index ds : List Decl) → IsPrefixIndex index ds → AreSortedByPrefix index
+in_order index ds (inl none) = subst AreSortedByPrefix (sym none) tt
+in_order index ds (inr all) = subst AreSortedByPrefix (sym all) (AreInOrder-with_sorted_decls [] ds tt)
 
-pub declared-index : (index ds : List Decl) (p : List ℕ) → IsIndex index ds → index ≢ [] → declared_uri index p ≡ declared_uri ds p
+pub declared-index : (index ds : List Decl) (p : List ℕ) → IsPrefixIndex index ds → index ≢ [] → declared_uri index p ≡ declared_uri ds p
 declared-index index ds p (inl none) some = absurd (some none)
-declared-index index ds p (inr all) some = ap (λ (l : List Decl). declared_uri l p) all ∙ declared-gathered [] ds p tt ∙ option_or-none (declared_uri ds p)
+declared-index index ds p (inr all) some = ap (λ (l : List Decl). declared_uri l p) all ∙ declared-with_sorted_decls [] ds p tt ∙ option_or-none (declared_uri ds p)
 
 -- ---- a search for a prefix
 abbrev pub seen : List (Bor Decl) → List Decl
@@ -31,7 +31,7 @@ module _ (p : List ℕ) where
   to_prefix x = order x.now.prefix p
 
   -- a declaration of the prefix is the only one
-  pub found : (ls : List (Bor Decl)) → AreInOrder (seen ls) → (i : ℕ) (d : Bor Decl) → i < length ls → to_prefix (get_or ls i d) ≡ Equal
+  pub found : (ls : List (Bor Decl)) → AreSortedByPrefix (seen ls) → (i : ℕ) (d : Bor Decl) → i < length ls → to_prefix (get_or ls i d) ≡ Equal
       → declared_uri (seen ls) p ≡ Some (get_or ls i d).now.uri
   found [] h i d within is = absurd (omega (arith, within))
   found (x ∷ ls) h zero d within is =
@@ -51,14 +51,14 @@ module _ (p : List ℕ) where
   missing [] h = refl
   missing (x ∷ ls) h = rw (missing ls (λ k d within. h (suc k) d (omega (arith, within))), unlike x (h 0 x (omega arith))) refl
 
-  rises : (ls : List (Bor Decl)) → AreInOrder (seen ls) → (k : ℕ) (d : Bor Decl) → k + 1 < length ls
+  rises : (ls : List (Bor Decl)) → AreSortedByPrefix (seen ls) → (k : ℕ) (d : Bor Decl) → k + 1 < length ls
       → is_lt (order (get_or ls (suc k) d).now.prefix (get_or ls k d).now.prefix) ≡ false
   rises [] h k d within = absurd (omega (arith, within))
   rises (x ∷ []) h k d within = absurd (omega (arith, within))
   rises (x ∷ y ∷ ls) h zero d within = ap is_lt (nat_list_cmp_total.antisymm y.now.prefix x.now.prefix ∙ ap ordering_reverse h.0.0)
   rises (x ∷ y ∷ ls) h (suc k) d within = rises (y ∷ ls) h.1 k d (omega (arith, within))
 
-  searchable : (ls : List (Bor Decl)) → AreInOrder (seen ls) → IsNonDecreasingBy (λ x. ordering_index (to_prefix x)) ls
+  searchable : (ls : List (Bor Decl)) → AreSortedByPrefix (seen ls) → IsNonDecreasingBy (λ x. ordering_index (to_prefix x)) ls
   searchable ls h =
       searchable_from_sorted nat_list_cmp_total (λ (x : Bor Decl). x.now.prefix) ls p
       (λ k d low within. subst (λ (j : ℕ). is_lt (order (get_or ls j d).now.prefix (get_or ls k d).now.prefix) ≡ false) (sym (add-one k)) (rises ls h k d within))
@@ -67,7 +67,7 @@ module _ (p : List ℕ) where
   side k i = grind arith
 
   -- a search that ends between the lesser and the greater ones found nothing
-  pub not_found : (ls : List (Bor Decl)) → AreInOrder (seen ls) → (i : ℕ)
+  pub not_found : (ls : List (Bor Decl)) → AreSortedByPrefix (seen ls) → (i : ℕ)
       → (IsNonDecreasingBy (λ x. ordering_index (to_prefix x)) ls → IsPartitionPoint (λ x. to_prefix x ≡ Less) (λ x. to_prefix x ≡ Greater) ls i) → declared_uri (seen ls) p ≡ None
   not_found ls h i parts = missing ls (λ k d short is.
       let halves = parts (searchable ls h) in

@@ -6,7 +6,7 @@ use Rattle.std.specs.Cmp.Lexicographic.{bytes_decides}
 use Rattle.xml_names.specs.declared.names.Name.{Name}
 use Rattle.xml_names.specs.declared.names.Decl.{Decl}
 use Rattle.xml_names.specs.declared.names.Attr.{Attr}
-use Rattle.xml_names.specs.Markup.{byte_len, end_tag_text, xmlns_name, tag_front, print_attr, print_comment, print_decl, print_name, print_text, text_escape, value_escape, quoted_text as quoted}
+use Rattle.xml_names.specs.Markup.{byte_len, end_tag_text, xmlns_name, tag_front, print_attr, print_comment, print_decl, print_name, print_text, text_escape, value_escape, quoted_value as quoted}
 use Rattle.xml_names.proofs.ScopeLemmas.{drop_item}
 use Rattle.xml_names.proofs.Escapes.{encode-text, encode-value}
 

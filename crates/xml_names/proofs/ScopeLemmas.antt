@@ -2,7 +2,7 @@
 use Rattle.std.proofs.Common.{◌≡◌, ℕ, suc, ◌+◌, ◌<◌, List, [], ◌∷◌, ◌++◌, length, drop, get_or, map, Option, Some, None, Bor, cond, bytes_eq, refl, sym, ap, ◌∙◌, add-one, drop-cons}
 use Rattle.std.specs.Option.{option_or}
 use Rattle.xml_names.specs.declared.names.Decl.{Decl}
-use Rattle.xml_names.specs.Scopes.{declared_uri, joined}
+use Rattle.xml_names.specs.Scopes.{declared_uri, scope_decls}
 
 -- the rest of a list, from an element on
 pub drop_item : {A : Type 0} (xs : List A) (i : ℕ) (x : A) → i < length xs → x ≡ get_or xs i x → drop i xs ≡ x ∷ drop (i + 1) xs
@@ -22,20 +22,20 @@ declared-append (d ∷ xs) ys p =
     ap (λ o. option_or o (cond (bytes_eq d.prefix p) (Some d.uri) None)) (declared-append xs ys p)
     ∙ sym (option_or-assoc (declared_uri ys p) (declared_uri xs p) (cond (bytes_eq d.prefix p) (Some d.uri) None))
 
-pub declared-joined : (ds : List Decl) (c : List (List Decl)) (p : List ℕ) → declared_uri (joined (ds ∷ c)) p ≡ option_or (declared_uri (joined c) p) (declared_uri ds p)
-declared-joined ds c p = declared-append ds (joined c) p
+pub declared-scope_decls : (ds : List Decl) (c : List (List Decl)) (p : List ℕ) → declared_uri (scope_decls (ds ∷ c)) p ≡ option_or (declared_uri (scope_decls c) p) (declared_uri ds p)
+declared-scope_decls ds c p = declared-append ds (scope_decls c) p
 
-pub ruleset declared_steps = (declared-joined, option_or-assoc, option_or-none)
+pub ruleset declared_steps = (declared-scope_decls, option_or-assoc, option_or-none)
 
 -- ---- one more list, in a loop over the lists
 module _ (p : List ℕ) where
   abbrev pub of_lists : List (Bor (List Decl)) → Option (List ℕ)
-  of_lists ls = declared_uri (joined (map (λ x. x.now) ls)) p
+  of_lists ls = declared_uri (scope_decls (map (λ x. x.now) ls)) p
 
   pub of_lists_next : (ls : List (Bor (List Decl))) (i : ℕ) (x : Bor (List Decl)) → i < length ls → x ≡ get_or ls i x
       → of_lists (drop i ls) ≡ option_or (of_lists (drop (i + 1) ls)) (declared_uri x.now p)
   of_lists_next ls i x within is =
-      ap of_lists (drop_item ls i x within is) ∙ declared-joined x.now (map (λ y. y.now) (drop (i + 1) ls)) p
+      ap of_lists (drop_item ls i x within is) ∙ declared-scope_decls x.now (map (λ y. y.now) (drop (i + 1) ls)) p
 
   pub nearer : (ls : List (Bor (List Decl))) (i : ℕ) (x : Bor (List Decl)) (found new whole : Option (List ℕ)) → i < length ls → x ≡ get_or ls i x
       → option_or (of_lists (drop i ls)) found ≡ whole → new ≡ option_or (declared_uri x.now p) found → option_or (of_lists (drop (i + 1) ls)) new ≡ whole

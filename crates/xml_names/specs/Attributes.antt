@@ -10,8 +10,8 @@ abbrev pub same_name : Name → Name → Bool
 same_name a b = bytes_eq a.prefix b.prefix && bytes_eq a.local b.local
 
 -- whether an attribute has this name
-abbrev pub is_written_so : Name → Attr → Bool
-is_written_so n a = same_name a.name n
+abbrev pub has_qname : Name → Attr → Bool
+has_qname n a = same_name a.name n
 
 -- the attribute with the value replaced
 abbrev pub with_new_value : List ℕ → Attr → Attr
@@ -37,12 +37,12 @@ change_item (suc i) f (y ∷ ys) = y ∷ change_item i f ys
 -- appended
 abbrev pub with_attr : Name → List ℕ → List Attr → List Attr
 with_attr n v ats =
-    change_first (is_written_so n) (with_new_value v) (record { name = n; value = v }) ats
+    change_first (has_qname n) (with_new_value v) (record { name = n; value = v }) ats
 
 -- without the attribute of this name
 abbrev pub without_attr : Name → List Attr → List Attr
-without_attr n ats = remove_first (is_written_so n) ats
+without_attr n ats = remove_first (has_qname n) ats
 
 -- the i-th attribute gets the value
-abbrev pub with_value : ℕ → List ℕ → List Attr → List Attr
-with_value i v ats = change_item i (with_new_value v) ats
+abbrev pub with_value_at : ℕ → List ℕ → List Attr → List Attr
+with_value_at i v ats = change_item i (with_new_value v) ats

@@ -30,15 +30,15 @@ is_name_start c =
 
 -- the characters that a name may contain but not begin with: `-` (45), `.` (46), from `0` (48) to
 -- `9` (57), and others
-abbrev pub is_joining : ℕ → Bool
-is_joining c =
+abbrev pub is_non_start_char : ℕ → Bool
+is_non_start_char c =
     c == 45 || c == 46 || within 48 57 c || c == 0xB7 || within 0x300 0x36F c
     || within 0x203F 0x2040 c
 
 -- [4a] NameChar ::= NameStartChar | "-" | "." | [0-9] | #xB7 | [#x0300-#x036F] | [#x203F-#x2040],
 --     without the colon
 abbrev pub is_name_char : ℕ → Bool
-is_name_char c = is_name_start c || is_joining c
+is_name_char c = is_name_start c || is_non_start_char c
 
 -- [4] of Namespaces, NCName: a NameStartChar and any number of NameChars, none of them a colon
 abbrev pub is_name : List ℕ → Bool
@@ -46,5 +46,5 @@ is_name [] = false
 is_name (c ∷ cs) = is_name_start c && list_all is_name_char cs
 
 -- every character is a Char
-abbrev pub all_chars : List ℕ → Bool
-all_chars text = list_all is_char text
+abbrev pub has_only_chars : List ℕ → Bool
+has_only_chars text = list_all is_char text

@@ -6,15 +6,15 @@ use Rattle.xml_names.specs.Characters.{is_char}
 
 -- a Char that a reader keeps as it is: a CR (13) is read as a line feed (section 2.11), so no
 -- tree contains one
-abbrev pub is_kept_char : ℕ → Bool
-is_kept_char c = is_char c && not (c == 13)
+abbrev pub is_comment_char : ℕ → Bool
+is_comment_char c = is_char c && not (c == 13)
 
 -- no two hyphens (45) are adjacent, and the last character isn't a hyphen
-abbrev pub hyphens_apart : List ℕ → Bool
-hyphens_apart [] = true
-hyphens_apart (c ∷ []) = not (c == 45)
-hyphens_apart (c ∷ d ∷ cs) = not (c == 45 && d == 45) && hyphens_apart (d ∷ cs)
+abbrev pub has_no_double_hyphen : List ℕ → Bool
+has_no_double_hyphen [] = true
+has_no_double_hyphen (c ∷ []) = not (c == 45)
+has_no_double_hyphen (c ∷ d ∷ cs) = not (c == 45 && d == 45) && has_no_double_hyphen (d ∷ cs)
 
 -- a text that a comment can contain and that is read back as it is
 abbrev pub is_comment : List ℕ → Bool
-is_comment text = list_all is_kept_char text && hyphens_apart text
+is_comment text = list_all is_comment_char text && has_no_double_hyphen text

@@ -4,6 +4,6 @@ pub mod Comments
 pub mod ExpandedNames
 pub mod Limits
 pub mod Markup
-pub mod Memory
+pub mod ReadErrors
 pub mod Scopes
 pub mod inner

@@ -33,8 +33,8 @@ abbrev pub print_text : List ℕ → List ℕ
 print_text t = flat_map text_escape t
 
 -- a value in its quotes, `"` (34)
-abbrev pub quoted_text : List ℕ → List ℕ
-quoted_text v = 34 ∷ (flat_map value_escape v ++ 34 ∷ [])
+abbrev pub quoted_value : List ℕ → List ℕ
+quoted_value v = 34 ∷ (flat_map value_escape v ++ 34 ∷ [])
 
 -- a name: the prefix and a colon (58), if there is a prefix, and the local name
 abbrev pub print_name : Name → List ℕ
@@ -46,10 +46,10 @@ xmlns_name p = if bytes_eq p [] then codes "xmlns" else (codes "xmlns:" ++ p)
 
 -- a declaration and an attribute: a space (32), the name, `=` (61) and the value
 abbrev pub print_decl : Decl → List ℕ
-print_decl d = 32 ∷ (xmlns_name d.prefix ++ 61 ∷ quoted_text d.uri)
+print_decl d = 32 ∷ (xmlns_name d.prefix ++ 61 ∷ quoted_value d.uri)
 
 abbrev pub print_attr : Attr → List ℕ
-print_attr a = 32 ∷ (print_name a.name ++ 61 ∷ quoted_text a.value)
+print_attr a = 32 ∷ (print_name a.name ++ 61 ∷ quoted_value a.value)
 
 -- `<` (60), the name, the declarations and the attributes
 abbrev pub tag_front : Name → List Decl → List Attr → List ℕ

@@ -26,9 +26,9 @@ xmlns_uri = codes "http://www.w3.org/2000/xmlns/"
 -- ---- what is bound in a scope, which is a list of lists of declarations, outermost first
 
 -- the declarations of all lists as one list, in which a later one is nearer
-abbrev pub joined : List (List Decl) → List Decl
-joined [] = []
-joined (ds ∷ c) = ds ++ joined c
+abbrev pub scope_decls : List (List Decl) → List Decl
+scope_decls [] = []
+scope_decls (ds ∷ c) = ds ++ scope_decls c
 
 -- the URI of the last declaration of a prefix
 abbrev pub declared_uri : List Decl → List ℕ → Option (List ℕ)
@@ -37,48 +37,50 @@ declared_uri (d ∷ ds) p =
     option_or (declared_uri ds p) (if bytes_eq d.prefix p then Some d.uri else None)
 
 -- an empty URI binds nothing, and hides outer declarations
-abbrev pub some_text : Option (List ℕ) → Option (List ℕ)
-some_text None = None
-some_text (Some []) = None
-some_text (Some (c ∷ cs)) = Some (c ∷ cs)
+abbrev pub non_empty_uri : Option (List ℕ) → Option (List ℕ)
+non_empty_uri None = None
+non_empty_uri (Some []) = None
+non_empty_uri (Some (c ∷ cs)) = Some (c ∷ cs)
 
 -- the URI that a prefix is bound to: by the nearest declaration, and `xml` always to its own
 -- namespace
-abbrev pub bound : List (List Decl) → List ℕ → Option (List ℕ)
-bound c p = if bytes_eq p xml_prefix then Some xml_uri else some_text (declared_uri (joined c) p)
+abbrev pub bound_uri : List (List Decl) → List ℕ → Option (List ℕ)
+bound_uri c p =
+    if bytes_eq p xml_prefix then Some xml_uri else non_empty_uri (declared_uri (scope_decls c) p)
 
 -- ---- all bindings of a scope, in order
 
 -- whether a text comes before another, by code point
-abbrev pub is_before : List ℕ → List ℕ → Bool
-is_before p q = is_lt (slice_cmp nat_cmp p q)
+abbrev pub sorts_before : List ℕ → List ℕ → Bool
+sorts_before p q = is_lt (slice_cmp nat_cmp p q)
 
 -- these texts in order, each once: the texts before the first one, itself, and the texts after it
-abbrev pub in_order : List (List ℕ) → List (List ℕ)
-in_order [] = []
-in_order (p ∷ ps) =
-    filter (λ q. is_before q p) (in_order ps) ++ p ∷ filter (λ q. is_before p q) (in_order ps)
+abbrev pub sorted_distinct : List (List ℕ) → List (List ℕ)
+sorted_distinct [] = []
+sorted_distinct (p ∷ ps) =
+    filter (λ q. sorts_before q p) (sorted_distinct ps)
+    ++ p ∷ filter (λ q. sorts_before p q) (sorted_distinct ps)
 
-abbrev pub decl_of : List ℕ → List ℕ → Decl
-decl_of p uri = record { prefix = p; uri = uri }
+abbrev pub decl_from_parts : List ℕ → List ℕ → Decl
+decl_from_parts p uri = record { prefix = p; uri = uri }
 
 -- what a prefix is bound to, as a declaration; `xml` is always bound, and has none
 abbrev pub binding : List (List Decl) → List ℕ → Option Decl
-binding c p = if bytes_eq p xml_prefix then None else option_map (decl_of p) (bound c p)
+binding c p = if bytes_eq p xml_prefix then None else option_map (decl_from_parts p) (bound_uri c p)
 
 -- all bindings in scope but the binding of `xml`: one for each declared prefix, the default
 -- first, then by code point
-abbrev pub bindings_in : List (List Decl) → List Decl
-bindings_in c = filter_map (binding c) (in_order (map (λ d. d.prefix) (joined c)))
+abbrev pub in_scope_bindings : List (List Decl) → List Decl
+in_scope_bindings c = filter_map (binding c) (sorted_distinct (map (λ d. d.prefix) (scope_decls c)))
 
 -- ---- properties of such a list
 
 -- whether a declaration binds a prefix that isn't always bound
-abbrev pub binds : Decl → Bool
-binds d = not (bytes_eq d.uri []) && not (bytes_eq d.prefix xml_prefix)
+abbrev pub binds_prefix : Decl → Bool
+binds_prefix d = not (bytes_eq d.uri []) && not (bytes_eq d.prefix xml_prefix)
 
 -- each prefix comes before the later ones, by code point
-abbrev pub AreInOrder : List Decl → Type 0
-AreInOrder [] = Unit {0}
-AreInOrder (d ∷ ds) =
-    AllByRecursion (λ x. slice_cmp nat_cmp d.prefix x.prefix ≡ Less) ds × AreInOrder ds
+abbrev pub AreSortedByPrefix : List Decl → Type 0
+AreSortedByPrefix [] = Unit {0}
+AreSortedByPrefix (d ∷ ds) =
+    AllByRecursion (λ x. slice_cmp nat_cmp d.prefix x.prefix ≡ Less) ds × AreSortedByPrefix ds

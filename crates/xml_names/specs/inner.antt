@@ -1,5 +1,5 @@
 -- Definitions for private functions and proofs; no public clause needs them.
-pub mod Codes
 pub mod DeclarationMaps
+pub mod SmallTextChars
 pub mod TextBytes
-pub mod Words
+pub mod ValueCodes

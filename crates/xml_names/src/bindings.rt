@@ -1,23 +1,24 @@
 //! All bindings of a scope, in the order of their prefixes.
 ghost use Rattle.std.specs.Prelude.{◌≡◌, map, filter, IfOk, OnOk};
-ghost use Rattle.xml_names.specs.Scopes.{bindings_in, binds};
-ghost use Rattle.xml_names.specs.inner.DeclarationMaps.{AreKeyed, gathered, gathered_bindings};
-ghost use Rattle.xml_names.specs.inner.DeclarationMaps.{values_in};
+ghost use Rattle.xml_names.specs.Scopes.{in_scope_bindings, binds_prefix};
+ghost use Rattle.xml_names.specs.inner.DeclarationMaps.{AreKeyedByPrefix, with_sorted_decls};
+ghost use Rattle.xml_names.specs.inner.DeclarationMaps.{sorted_bindings};
+ghost use Rattle.xml_names.specs.inner.DeclarationMaps.{map_decls};
 
 use crate::names::{Decl, push_decl_copy};
-use crate::prefixes::is_xml;
+use crate::prefixes::is_xml_prefix;
 use std::alloc::{AllocError, Global};
 use std::collections::BTreeMap;
 
 // Inserts declarations into a map by prefix: a later one replaces an earlier one of its prefix.
-pub(crate) fn gather<'a>(
+pub(crate) fn insert_decls<'a>(
     found: &mut BTreeMap<&'a str, &'a Decl>,
     decls: &'a [Decl],
 ) -> Result<(), AllocError>
-    requires { AreKeyed found.old.entries }
-    ensures keyed_entries { OnOk result (AreKeyed found.new.entries) }
+    requires { AreKeyedByPrefix found.old.entries }
+    ensures keyed_entries { OnOk result (AreKeyedByPrefix found.new.entries) }
     ensures gathers_nearest { OnOk result
-        (values_in found.new.entries ≡ gathered (values_in found.old.entries) decls.now) }
+        (map_decls found.new.entries ≡ with_sorted_decls (map_decls found.old.entries) decls.now) }
 {
     for decl in decls {
         found.insert(decl.prefix.as_str(), decl)?;
@@ -26,10 +27,10 @@ pub(crate) fn gather<'a>(
 }
 
 // Whether a declaration binds a prefix that isn't always bound.
-fn binds(decl: &Decl) -> bool
-    ensures exact { result ≡ binds decl.now }
+fn binds_prefix(decl: &Decl) -> bool
+    ensures exact { result ≡ binds_prefix decl.now }
 {
-    !decl.uri.is_empty() && !is_xml(decl.prefix.as_str())
+    !decl.uri.is_empty() && !is_xml_prefix(decl.prefix.as_str())
 }
 
 /// All bindings in these lists of declarations, outermost first, without the binding of `xml`: the
@@ -38,30 +39,31 @@ fn binds(decl: &Decl) -> bool
 /// # Errors
 /// `NoMemory` when out of memory.
 #[tactic(auto, using(crate::proofs::BindingWords::gathered_are))]
-pub fn bindings_in(alloc: Global, lists: &[&[Decl]]) -> Result<Vec<Decl>, AllocError>
-    ensures ok { IfOk result (λ made. made.items ≡ bindings_in (map (λ x. x.now) lists.now)) }
+pub fn in_scope_bindings(alloc: Global, lists: &[&[Decl]]) -> Result<Vec<Decl>, AllocError>
+    ensures ok { IfOk result (λ made. made.items ≡ in_scope_bindings (map (λ x. x.now) lists.now)) }
 {
-    bindings(alloc, lists)
+    collect_bindings(alloc, lists)
 }
 
 // The same bindings, as the declarations that bind among those gathered.
-fn bindings(alloc: Global, lists: &[&[Decl]]) -> Result<Vec<Decl>, AllocError>
-    ensures ok { IfOk result (λ made. made.items ≡ gathered_bindings (map (λ x. x.now) lists.now)) }
+fn collect_bindings(alloc: Global, lists: &[&[Decl]]) -> Result<Vec<Decl>, AllocError>
+    ensures ok { IfOk result (λ made. made.items ≡ sorted_bindings (map (λ x. x.now) lists.now)) }
 {
     let mut found = BTreeMap::new(alloc);
     for list in lists {
-        gather(&mut found, list)?;
+        insert_decls(&mut found, list)?;
     }
-    binding_ones(alloc, &found)
+    filter_bindings(alloc, &found)
 }
 
 // Copies of the declarations that bind, in order.
-fn binding_ones(alloc: Global, found: &BTreeMap<&str, &Decl>) -> Result<Vec<Decl>, AllocError>
-    ensures ok { IfOk result (λ made. made.items ≡ filter binds (values_in found.now.entries)) }
+fn filter_bindings(alloc: Global, found: &BTreeMap<&str, &Decl>) -> Result<Vec<Decl>, AllocError>
+    ensures ok { IfOk result
+        (λ made. made.items ≡ filter binds_prefix (map_decls found.now.entries)) }
 {
     let mut ones = Vec::new(alloc);
     for decl in found.values() {
-        if binds(decl) {
+        if binds_prefix(decl) {
             push_decl_copy(alloc, &mut ones, decl)?;
         }
     }

@@ -2,7 +2,7 @@
 ghost use Rattle.std.specs.Prelude.{◌≡◌, chars};
 ghost use Rattle.std.specs.List.{list_all};
 ghost use Rattle.xml_names.specs.Characters.{is_char, is_space, is_name_start, is_name_char};
-ghost use Rattle.xml_names.specs.Characters.{is_joining, is_name};
+ghost use Rattle.xml_names.specs.Characters.{is_non_start_char, is_name};
 
 /// Whether a character is a Char, allowed in a document (XML 1.0, production 2).
 pub fn is_char(c: char) -> bool
@@ -36,12 +36,12 @@ pub fn is_name_start(c: char) -> bool
 pub fn is_name_char(c: char) -> bool
     ensures exact { result ≡ is_name_char c }
 {
-    is_name_start(c) || is_joining(c)
+    is_name_start(c) || is_non_start_char(c)
 }
 
 // The characters that a name may contain but not begin with.
-fn is_joining(c: char) -> bool
-    ensures exact { result ≡ is_joining c }
+fn is_non_start_char(c: char) -> bool
+    ensures exact { result ≡ is_non_start_char c }
 {
     match c {
         '-' | '.' | '0'..='9' | '\u{b7}' => true,

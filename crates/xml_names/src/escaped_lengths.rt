@@ -5,7 +5,7 @@ ghost use Rattle.xml_names.specs.Markup.{text_escape, value_escape};
 use crate::references::{text_reference, value_reference};
 
 // How many bytes a byte of a text is written as.
-fn text_width(byte: u8) -> usize
+fn text_escape_len(byte: u8) -> usize
     ensures exact { result ≡ length (text_escape byte) }
 {
     match text_reference(byte as char) {
@@ -15,7 +15,7 @@ fn text_width(byte: u8) -> usize
 }
 
 // How many bytes a byte of a value in quotes is written as.
-fn value_width(byte: u8) -> usize
+fn value_escape_len(byte: u8) -> usize
     ensures exact { result ≡ length (value_escape byte) }
 {
     match value_reference(byte as char) {
@@ -55,24 +55,24 @@ pub fn is_plain_value(value: &[u8]) -> bool
 
 // The length of a text, byte by byte.
 #[inline(never)]
-fn referenced_text_len(text: &[u8]) -> usize
+fn escaped_text_len_by_byte(text: &[u8]) -> usize
     ensures exact { result ≡ min (length (flat_map text_escape text.now)) usize.MAX }
 {
     let mut total = 0usize;
     for byte in text {
-        total = total.saturating_add(text_width(*byte));
+        total = total.saturating_add(text_escape_len(*byte));
     }
     total
 }
 
 // The length of a value without its quotes, byte by byte.
 #[inline(never)]
-fn referenced_value_len(value: &[u8]) -> usize
+fn escaped_value_len_by_byte(value: &[u8]) -> usize
     ensures exact { result ≡ min (length (flat_map value_escape value.now)) usize.MAX }
 {
     let mut total = 0usize;
     for byte in value {
-        total = total.saturating_add(value_width(*byte));
+        total = total.saturating_add(value_escape_len(*byte));
     }
     total
 }
@@ -80,22 +80,22 @@ fn referenced_value_len(value: &[u8]) -> usize
 /// The length in bytes of the print of a text, by its bytes; `usize::MAX` if it is longer, as in
 /// all functions below. Does not allocate. Most texts contain nothing that is written as a
 /// reference.
-pub fn text_len(text: &[u8]) -> usize
+pub fn escaped_text_len(text: &[u8]) -> usize
     ensures exact { result ≡ min (length (flat_map text_escape text.now)) usize.MAX }
 {
     if is_plain_text(text) {
         return text.len();
     }
-    referenced_text_len(text)
+    escaped_text_len_by_byte(text)
 }
 
 /// The length in bytes of a value as written, without the quotes, by its bytes. Does not
 /// allocate.
-pub fn value_len(value: &[u8]) -> usize
+pub fn escaped_value_len(value: &[u8]) -> usize
     ensures exact { result ≡ min (length (flat_map value_escape value.now)) usize.MAX }
 {
     if is_plain_value(value) {
         return value.len();
     }
-    referenced_value_len(value)
+    escaped_value_len_by_byte(value)
 }

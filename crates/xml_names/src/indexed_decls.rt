@@ -1,10 +1,10 @@
 //! The declarations of an element, with an index if they are many.
 ghost use Rattle.std.specs.Prelude.{◌≡◌, ◌==◌, [], length, map, IfOk};
 ghost use Rattle.std.specs.Option.{option_copied};
-ghost use Rattle.xml_names.specs.inner.DeclarationMaps.{gathered};
-ghost use Rattle.xml_names.specs.Scopes.{AreInOrder, declared_uri};
+ghost use Rattle.xml_names.specs.inner.DeclarationMaps.{with_sorted_decls};
+ghost use Rattle.xml_names.specs.Scopes.{AreSortedByPrefix, declared_uri};
 
-use crate::bindings::gather;
+use crate::bindings::insert_decls;
 use crate::names::{Decl, Prefix};
 use crate::prefixes;
 use crate::text::Text;
@@ -26,8 +26,8 @@ pub struct IndexedDecls<'a> {
 
 impl<'a> Model for IndexedDecls<'a> {
     ghost use Rattle.std.specs.Prelude.{List, map};
-    ghost use Rattle.xml_names.specs.inner.Codes.{decls_code};
-    ghost use Rattle.xml_names.specs.inner.DeclarationMaps.{IsIndex};
+    ghost use Rattle.xml_names.specs.inner.ValueCodes.{decls_code};
+    ghost use Rattle.xml_names.specs.inner.DeclarationMaps.{IsPrefixIndex};
     ghost use Rattle.xml_names.specs.declared.names.Decl.{Decl};
 
     ghost Value = { List Decl };
@@ -36,7 +36,7 @@ impl<'a> Model for IndexedDecls<'a> {
 
     ghost view = { λ d. d.decls.now };
 
-    ghost invariant = { λ d. IsIndex (map (λ x. x.now) d.index.items) d.decls.now };
+    ghost invariant = { λ d. IsPrefixIndex (map (λ x. x.now) d.index.items) d.decls.now };
 }
 
 impl<'a> IndexedDecls<'a> {
@@ -60,7 +60,7 @@ impl<'a> IndexedDecls<'a> {
         if decls.len() <= FEW {
             return Ok(IndexedDecls::new(alloc, decls));
         }
-        let index = index_of(alloc, decls)?;
+        let index = build_index(alloc, decls)?;
         Ok(IndexedDecls { decls, index })
     }
 
@@ -80,17 +80,17 @@ impl<'a> IndexedDecls<'a> {
         if self.index.is_empty() {
             return prefixes::declared_uri(self.decls, prefix.as_str());
         }
-        look_up(&self.index, prefix)
+        find_in_index(&self.index, prefix)
     }
 }
 
 // The last declaration of each prefix, in the order of the prefixes.
-fn index_of<'a>(alloc: Global, decls: &'a [Decl]) -> Result<Vec<&'a Decl>, AllocError>
+fn build_index<'a>(alloc: Global, decls: &'a [Decl]) -> Result<Vec<&'a Decl>, AllocError>
     ensures last_of_each { IfOk result
-        (λ made. map (λ x. x.now) made.items ≡ gathered [] decls.now) }
+        (λ made. map (λ x. x.now) made.items ≡ with_sorted_decls [] decls.now) }
 {
     let mut found = BTreeMap::new(alloc);
-    gather(&mut found, decls)?;
+    insert_decls(&mut found, decls)?;
     let mut index = Vec::with_capacity(alloc, found.len())?;
     for decl in found.values() {
         index.push(*decl)?;
@@ -99,8 +99,8 @@ fn index_of<'a>(alloc: Global, decls: &'a [Decl]) -> Result<Vec<&'a Decl>, Alloc
 }
 
 // The URI of a prefix in an index.
-fn look_up<'a>(index: &[&'a Decl], prefix: &Prefix) -> Option<&'a Text>
-    requires { AreInOrder (map (λ x. x.now) index.now) }
+fn find_in_index<'a>(index: &[&'a Decl], prefix: &Prefix) -> Option<&'a Text>
+    requires { AreSortedByPrefix (map (λ x. x.now) index.now) }
     ensures exact { option_copied result ≡ declared_uri (map (λ x. x.now) index.now) prefix.now }
 {
     match index.binary_search_by(|decl| decl.prefix.cmp(prefix)) {
@@ -111,7 +111,7 @@ fn look_up<'a>(index: &[&'a Decl], prefix: &Prefix) -> Option<&'a Text>
 
 /// Declarations, with an index if they are many and there is memory for one. What they declare is
 /// the same without it.
-pub fn declared_in<'a>(alloc: Global, decls: &'a [Decl]) -> IndexedDecls<'a>
+pub fn index_decls<'a>(alloc: Global, decls: &'a [Decl]) -> IndexedDecls<'a>
     ensures holds_declarations { result ≡ decls.now }
 {
     match IndexedDecls::with_index(alloc, decls) {

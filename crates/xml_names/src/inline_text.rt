@@ -45,7 +45,7 @@ impl<const N: usize> InlineText<N> {
 
     /// A copy of a short text that is a prefix of `bytes`, which has `N` or more: `N` bytes are
     /// copied at once.
-    pub(crate) fn of_front(text: &str, bytes: &[u8]) -> InlineText<N>
+    pub(crate) fn copy_front(text: &str, bytes: &[u8]) -> InlineText<N>
         requires within_max { N ≤ 64 }
         requires fits { length text.now ≤ N }
         requires long_enough { N ≤ length bytes.now }
@@ -70,7 +70,7 @@ impl<const N: usize> InlineText<N> {
     }
 
     /// Appends a text if its bytes fit; returns whether they do.
-    pub(crate) fn takes(&mut self, text: &str) -> bool
+    pub(crate) fn try_push_str(&mut self, text: &str) -> bool
         ensures adds_bytes { IsTrue result → self.new ≡ self.old ++ text.now }
         ensures err_unchanged { IsFalse result → self.new ≡ self.old }
         ensures true_iff_fits { IsTrue result ↔ (length self.old + length text.now ≤ N) }

@@ -2,21 +2,22 @@
 ghost use Rattle.std.specs.Prelude.{◌≡◌, ◌<◌, [], map, option_map, chars};
 ghost use Rattle.std.specs.Option.{option_copied};
 ghost use Rattle.std.specs.Str.{bytes_eq};
-ghost use Rattle.xml_names.specs.Scopes.{declared_uri, joined, some_text, xml_prefix, xml_uri};
+ghost use Rattle.xml_names.specs.Scopes.{declared_uri, scope_decls, non_empty_uri, xml_prefix};
+ghost use Rattle.xml_names.specs.Scopes.{xml_uri};
 ghost use Rattle.xml_names.specs.Scopes.{xmlns_prefix};
 
 use crate::names::Decl;
 use crate::text::Text;
 
 /// Whether a prefix is `xml`, which is always bound.
-pub fn is_xml(prefix: &str) -> bool
+pub fn is_xml_prefix(prefix: &str) -> bool
     ensures exact { result ≡ bytes_eq (chars prefix.now) xml_prefix }
 {
     prefix == "xml"
 }
 
 /// Whether a prefix is `xmlns`, which is never bound.
-pub fn is_xmlns(prefix: &str) -> bool
+pub fn is_xmlns_prefix(prefix: &str) -> bool
     ensures exact { result ≡ bytes_eq (chars prefix.now) xmlns_prefix }
 {
     prefix == "xmlns"
@@ -30,9 +31,9 @@ pub fn xml_uri() -> &'static str
 }
 
 /// A URI, or None if it is empty, as that binds nothing. Does not allocate.
-pub fn some_text<'a>(uri: Option<&'a Text>) -> Option<&'a str>
+pub fn non_empty_uri<'a>(uri: Option<&'a Text>) -> Option<&'a str>
     ensures none_if_empty { option_map (λ text. chars text.now) result
-        ≡ some_text (option_copied uri.entry) }
+        ≡ non_empty_uri (option_copied uri.entry) }
 {
     match uri {
         Some(text) if !text.is_empty() => Some(text.as_str()),
@@ -42,9 +43,9 @@ pub fn some_text<'a>(uri: Option<&'a Text>) -> Option<&'a str>
 
 /// The URI that the lists declare for a prefix; the last list is nearest. Does not allocate.
 #[tactic(auto, using(crate::proofs::ScopeLemmas::declared_steps))]
-pub fn nearest<'a>(lists: &[&'a [Decl]], prefix: &str) -> Option<&'a Text>
+pub fn nearest_uri<'a>(lists: &[&'a [Decl]], prefix: &str) -> Option<&'a Text>
     ensures exact { option_copied result
-        ≡ declared_uri (joined (map (λ x. x.now) lists.now)) (chars prefix.now) }
+        ≡ declared_uri (scope_decls (map (λ x. x.now) lists.now)) (chars prefix.now) }
 {
     let mut found = None;
     for list in lists {

@@ -19,11 +19,11 @@ pub struct SmallText<const N: usize> {
 
 impl<const N: usize> Model for SmallText<N> {
     ghost use Rattle.std.specs.Prelude.{ℕ, List};
-    ghost use Rattle.xml_names.specs.inner.Words.{characters_of};
+    ghost use Rattle.xml_names.specs.inner.SmallTextChars.{storage_chars};
 
     ghost Value = { List ℕ };
 
-    ghost view = { λ w. characters_of w.bytes };
+    ghost view = { λ w. storage_chars w.bytes };
 }
 
 impl<const N: usize> SmallText<N> {
@@ -46,7 +46,7 @@ impl<const N: usize> SmallText<N> {
         ensures same_chars { IfOk result (λ made. made ≡ chars text.now) }
     {
         let mut short = InlineText::new();
-        if short.takes(text) {
+        if short.try_push_str(text) {
             return Ok(SmallText {
                 bytes: SmallTextStorage::Short(short),
             });
@@ -69,10 +69,10 @@ impl<const N: usize> SmallText<N> {
         if !SmallText::<N>::fits_front(text, bytes) {
             return SmallText::from(alloc, text);
         }
-        Ok(SmallText::of_front(text, bytes))
+        Ok(SmallText::copy_front(text, bytes))
     }
 
-    /// Whether `of_front` can copy a text that is a prefix of `bytes`: it has at most `N` bytes,
+    /// Whether `copy_front` can copy a text that is a prefix of `bytes`: it has at most `N` bytes,
     /// and `bytes` has `N` or more.
     #[inline(always)]
     pub fn fits_front(text: &str, bytes: &[u8]) -> bool
@@ -84,14 +84,14 @@ impl<const N: usize> SmallText<N> {
     /// A copy of a text of at most `N` bytes that is a prefix of `bytes`, which has `N` or more:
     /// it costs the same whatever its length. Does not allocate.
     #[inline(always)]
-    pub fn of_front(text: &str, bytes: &[u8]) -> SmallText<N>
+    pub fn copy_front(text: &str, bytes: &[u8]) -> SmallText<N>
         requires within_max { N ≤ 64 }
         requires fits { (length text.now ≤ N) × (N ≤ length bytes.now) }
         requires is_front { text.now ≡ take (length text.now) bytes.now }
         ensures same_chars { result ≡ chars text.now }
     {
         SmallText {
-            bytes: SmallTextStorage::Short(InlineText::of_front(text, bytes)),
+            bytes: SmallTextStorage::Short(InlineText::copy_front(text, bytes)),
         }
     }
 

@@ -1,6 +1,6 @@
 //! How a small text is stored: a few bytes inline, more in a block of its own.
 ghost use Rattle.std.specs.Prelude.{◌≡◌, chars, IfOk};
-ghost use Rattle.xml_names.specs.inner.Words.{characters_of};
+ghost use Rattle.xml_names.specs.inner.SmallTextChars.{storage_chars};
 
 use crate::inline_text::InlineText;
 use crate::text::Text;
@@ -17,7 +17,7 @@ impl<const N: usize> SmallTextStorage<N> {
     /// A copy of a text in a block of its own. Few texts need it.
     #[inline(never)]
     pub(crate) fn long(alloc: Global, text: &str) -> Result<SmallTextStorage<N>, AllocError>
-        ensures same_chars { IfOk result (λ made. characters_of made ≡ chars text.now) }
+        ensures same_chars { IfOk result (λ made. storage_chars made ≡ chars text.now) }
     {
         let text = Text::from(alloc, text)?;
         let long = Box::new(alloc, text)?;
@@ -26,7 +26,7 @@ impl<const N: usize> SmallTextStorage<N> {
 
     /// A copy of these characters.
     pub(crate) fn copy(&self, alloc: Global) -> Result<SmallTextStorage<N>, AllocError>
-        ensures same_chars { IfOk result (λ made. characters_of made ≡ characters_of self.now) }
+        ensures same_chars { IfOk result (λ made. storage_chars made ≡ storage_chars self.now) }
     {
         match self {
             SmallTextStorage::Short(text) => Ok(SmallTextStorage::Short(text.copy())),
@@ -36,7 +36,7 @@ impl<const N: usize> SmallTextStorage<N> {
 
     /// The text, borrowed.
     pub(crate) fn as_str(&self) -> &str
-        ensures exact { chars result.now ≡ characters_of self.now }
+        ensures exact { chars result.now ≡ storage_chars self.now }
     {
         match self {
             SmallTextStorage::Short(text) => text.as_str(),

@@ -1,18 +1,18 @@
 //! The lengths of the prints of names, declarations and attributes.
 ghost use Rattle.std.specs.Prelude.{◌≡◌, flat_map, min};
 ghost use Rattle.xml_names.specs.Markup.{byte_len, xmlns_name, print_attr, print_decl, print_name};
-ghost use Rattle.xml_names.specs.Markup.{quoted_text};
+ghost use Rattle.xml_names.specs.Markup.{quoted_value};
 
-use crate::escaped_lengths::value_len;
+use crate::escaped_lengths::escaped_value_len;
 use crate::names::{Attr, Decl, Name, Prefix};
 use crate::text::Text;
 
 // The length of a value in its quotes.
 #[tactic(auto, using(crate::proofs::PrintLengths::lengths))]
 fn quoted_len(value: &Text) -> usize
-    ensures exact { result ≡ min (byte_len (quoted_text value.now)) usize.MAX }
+    ensures exact { result ≡ min (byte_len (quoted_value value.now)) usize.MAX }
 {
-    value_len(value.as_str().as_bytes()).saturating_add(2)
+    escaped_value_len(value.as_str().as_bytes()).saturating_add(2)
 }
 
 /// The length in bytes of a name as printed, with its prefix and the colon; `usize::MAX` if it is
@@ -34,7 +34,7 @@ pub fn name_len(name: &Name) -> usize
 
 // The length of the name that declares a prefix.
 #[tactic(auto, using(crate::proofs::PrintLengths::lengths))]
-fn declaring_len(prefix: &Prefix) -> usize
+fn xmlns_name_len(prefix: &Prefix) -> usize
     ensures exact { result ≡ min (byte_len (xmlns_name prefix.now)) usize.MAX }
 {
     if prefix.is_empty() {
@@ -49,7 +49,7 @@ fn declaring_len(prefix: &Prefix) -> usize
 pub fn decl_len(decl: &Decl) -> usize
     ensures exact { result ≡ min (byte_len (print_decl decl.now)) usize.MAX }
 {
-    declaring_len(&decl.prefix)
+    xmlns_name_len(&decl.prefix)
         .saturating_add(quoted_len(&decl.uri))
         .saturating_add(2)
 }

@@ -18,13 +18,13 @@ pub struct Text {
 
 impl Model for Text {
     ghost use Rattle.std.specs.Prelude.{ℕ, List, chars, IsUtf8};
-    ghost use Rattle.xml_names.specs.inner.TextBytes.{bytes_of};
+    ghost use Rattle.xml_names.specs.inner.TextBytes.{storage_bytes};
 
     ghost Value = { List ℕ };
 
-    ghost view = { λ t. chars (bytes_of t.bytes) };
+    ghost view = { λ t. chars (storage_bytes t.bytes) };
 
-    ghost invariant = { λ t. ∥ IsUtf8 (bytes_of t.bytes) ∥₁ };
+    ghost invariant = { λ t. ∥ IsUtf8 (storage_bytes t.bytes) ∥₁ };
 }
 
 impl Text {
@@ -48,7 +48,7 @@ impl Text {
         requires { text.now ≡ take (length text.now) bytes.now }
         ensures same_chars { IfOk result (λ made. made ≡ chars text.now) }
     {
-        let made = TextStorage::of_front(alloc, text, bytes)?;
+        let made = TextStorage::copy_front(alloc, text, bytes)?;
         Ok(Text { bytes: made })
     }
 

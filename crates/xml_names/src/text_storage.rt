@@ -1,7 +1,7 @@
 //! The bytes of a text: a few are stored inline, more are allocated.
 ghost use Rattle.std.specs.Prelude.{◌≡◌, ◌++◌, length, take, encode_utf8, string_bytes, [], IfOk};
 ghost use Rattle.std.specs.Prelude.{OnOk, OnErr};
-ghost use Rattle.xml_names.specs.inner.TextBytes.{bytes_of};
+ghost use Rattle.xml_names.specs.inner.TextBytes.{storage_bytes};
 
 use crate::inline_text::InlineText;
 use std::alloc::{AllocError, Global};
@@ -20,7 +20,7 @@ pub(crate) enum TextStorage {
 impl TextStorage {
     /// No bytes, with capacity for `bytes` of them.
     pub(crate) fn with_capacity(alloc: Global, bytes: usize) -> Result<TextStorage, AllocError>
-        ensures holds_no_bytes { IfOk result (λ made. bytes_of made ≡ []) }
+        ensures holds_no_bytes { IfOk result (λ made. storage_bytes made ≡ []) }
     {
         if bytes <= MAX_INLINE {
             return Ok(TextStorage::Short(alloc, InlineText::new()));
@@ -30,23 +30,23 @@ impl TextStorage {
 
     /// A copy of a text's bytes.
     pub(crate) fn from(alloc: Global, text: &str) -> Result<TextStorage, AllocError>
-        ensures same_bytes { IfOk result (λ made. bytes_of made ≡ text.now) }
+        ensures same_bytes { IfOk result (λ made. storage_bytes made ≡ text.now) }
     {
         let mut short = InlineText::new();
-        if short.takes(text) {
+        if short.try_push_str(text) {
             return Ok(TextStorage::Short(alloc, short));
         }
         Ok(TextStorage::Long(String::from_str(alloc, text)?))
     }
 
     /// A copy of a text's bytes, which are a prefix of `bytes`.
-    pub(crate) fn of_front(
+    pub(crate) fn copy_front(
         alloc: Global,
         text: &str,
         bytes: &[u8],
     ) -> Result<TextStorage, AllocError>
         requires { text.now ≡ take (length text.now) bytes.now }
-        ensures same_bytes { IfOk result (λ made. bytes_of made ≡ text.now) }
+        ensures same_bytes { IfOk result (λ made. storage_bytes made ≡ text.now) }
     {
         if text.len() > MAX_INLINE {
             return TextStorage::from(alloc, text);
@@ -54,12 +54,12 @@ impl TextStorage {
         if bytes.len() < MAX_INLINE {
             return TextStorage::from(alloc, text);
         }
-        Ok(TextStorage::Short(alloc, InlineText::of_front(text, bytes)))
+        Ok(TextStorage::Short(alloc, InlineText::copy_front(text, bytes)))
     }
 
     /// A copy of these bytes.
     pub(crate) fn copy(&self, alloc: Global) -> Result<TextStorage, AllocError>
-        ensures same_bytes { IfOk result (λ made. bytes_of made ≡ bytes_of self.now) }
+        ensures same_bytes { IfOk result (λ made. storage_bytes made ≡ storage_bytes self.now) }
     {
         match self {
             TextStorage::Short(_, short) => Ok(TextStorage::Short(alloc, short.copy())),
@@ -69,7 +69,7 @@ impl TextStorage {
 
     /// The text, borrowed.
     pub(crate) fn as_str(&self) -> &str
-        ensures exact { result.now ≡ bytes_of self.now }
+        ensures exact { result.now ≡ storage_bytes self.now }
     {
         match self {
             TextStorage::Short(_, short) => short.as_str(),
@@ -79,13 +79,14 @@ impl TextStorage {
 
     /// Appends a text's bytes.
     pub(crate) fn push_str(&mut self, text: &str) -> Result<(), AllocError>
-        ensures appends_chars { OnOk result (bytes_of self.new ≡ bytes_of self.old ++ text.now) }
-        ensures err_unchanged { OnErr result (bytes_of self.new ≡ bytes_of self.old) }
+        ensures appends_chars { OnOk result
+            (storage_bytes self.new ≡ storage_bytes self.old ++ text.now) }
+        ensures err_unchanged { OnErr result (storage_bytes self.new ≡ storage_bytes self.old) }
     {
         match self {
             TextStorage::Long(string) => string.push_str(text),
             TextStorage::Short(alloc, short) => {
-                if short.takes(text) {
+                if short.try_push_str(text) {
                     return Ok(());
                 }
                 let long = concat(*alloc, short.as_str(), text)?;
@@ -97,8 +98,9 @@ impl TextStorage {
 
     /// Appends a character's bytes.
     pub(crate) fn push(&mut self, c: char) -> Result<(), AllocError>
-        ensures appended { OnOk result (bytes_of self.new ≡ bytes_of self.old ++ encode_utf8 c) }
-        ensures err_unchanged { OnErr result (bytes_of self.new ≡ bytes_of self.old) }
+        ensures appended { OnOk result
+            (storage_bytes self.new ≡ storage_bytes self.old ++ encode_utf8 c) }
+        ensures err_unchanged { OnErr result (storage_bytes self.new ≡ storage_bytes self.old) }
     {
         match self {
             TextStorage::Long(string) => string.push(c),

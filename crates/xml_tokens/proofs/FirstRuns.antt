@@ -3,32 +3,32 @@ use Rattle.std.proofs.Common.{◌≡◌, ℕ, ◌<◌, ◌≤◌, Bool, true, fa
 use Rattle.std.specs.Prelude.{nat_eq}
 use Rattle.std.proofs.lemmas.Bool.{eqb-true, lt-leb, ne_eqb, or_left, or_right}
 use Rattle.std.specs.Int.{is_in_range as within}
-use Rattle.xml_grammar.specs.TextReading.{Syntax, head_is, front_of, after_front}
-use Rattle.xml_grammar.specs.readers.Functions.{read_name_of}
-use Rattle.xml_names.specs.Characters.{is_name_start, is_joining, is_name_char}
+use Rattle.xml_grammar.specs.TextReading.{Syntax, first_char_is, take_while, drop_while}
+use Rattle.xml_grammar.specs.readers.RuleReaders.{read_name_rule}
+use Rattle.xml_names.specs.Characters.{is_name_start, is_non_start_char, is_name_char}
 use Rattle.xml_tokens.specs.declared.fault_kind.FaultKind.{FaultKind}
-use Rattle.xml_tokens.specs.readers.Runs.{is_plain_in_name}
+use Rattle.xml_tokens.specs.readers.CharacterRuns.{is_plain_in_name}
 use Rattle.xml_tokens.proofs.RawLetters.{small_in_name}
 
 module _ (first others : ℕ → Bool) (both : (c : ℕ) → first c ≡ true → others c ≡ true) where
-  pub run_read : (text : List ℕ) → head_is first text ≡ true → read_name_of {Kind = FaultKind} first others text ≡ Ok (front_of others text, after_front others text)
+  pub run_read : (text : List ℕ) → first_char_is first text ≡ true → read_name_rule {Kind = FaultKind} first others text ≡ Ok (take_while others text, drop_while others text)
   run_read [] h = absurd cc
   run_read (c ∷ cs) h = rw (h, both c h) refl
 
-  pub run_some : (text : List ℕ) → head_is first text ≡ true → 0 < length (front_of others text)
+  pub run_some : (text : List ℕ) → first_char_is first text ≡ true → 0 < length (take_while others text)
   run_some [] h = absurd cc
   run_some (c ∷ cs) h = rw (both c h) (omega arith)
 
-pub run_unread : (first others : ℕ → Bool) (text : List ℕ) → head_is first text ≡ false → read_name_of {Kind = FaultKind} first others text ≡ Err (Syntax text)
+pub run_unread : (first others : ℕ → Bool) (text : List ℕ) → first_char_is first text ≡ false → read_name_rule {Kind = FaultKind} first others text ≡ Err (Syntax text)
 run_unread first others [] h = refl
 run_unread first others (c ∷ cs) h = rw h refl
 
 -- a character that begins a name is a name character
 pub start_in_name : (c : ℕ) → is_name_start c ≡ true → is_name_char c ≡ true
-start_in_name c h = or_left (is_name_start c) (is_joining c) h
+start_in_name c h = or_left (is_name_start c) (is_non_start_char c) h
 
 digit_in_name : (c : ℕ) → within 48 57 c ≡ true → is_name_char c ≡ true
-digit_in_name c h = or_right (is_name_start c) (is_joining c) (rw h (rw (by (nat_eq c 45) (nat_eq c 46)) refl))
+digit_in_name c h = or_right (is_name_start c) (is_non_start_char c) (rw h (rw (by (nat_eq c 45) (nat_eq c 46)) refl))
   where
     by : (a b : Bool) → ((a || b) || true) ≡ true
     by true b = refl
@@ -36,7 +36,7 @@ digit_in_name c h = or_right (is_name_start c) (is_joining c) (rw h (rw (by (nat
     by false false = refl
 
 capital_in_name : (c : ℕ) → within 65 90 c ≡ true → is_name_char c ≡ true
-capital_in_name c h = or_left (is_name_start c) (is_joining c) (rw h refl)
+capital_in_name c h = or_left (is_name_start c) (is_non_start_char c) (rw h refl)
 
 -- no other ASCII character is one
 other_name : (c : ℕ) → c ≤ 127 → nat_eq c 45 ≡ false → nat_eq c 46 ≡ false → within 48 57 c ≡ false → within 97 122 c ≡ false → within 65 90 c ≡ false → nat_eq c 95 ≡ false → is_name_char c ≡ false

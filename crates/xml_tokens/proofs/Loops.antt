@@ -1,12 +1,12 @@
 -- A loop over members reads them all: what it has made of the members that it has read, and the
 -- members that are left.
 use Rattle.std.proofs.Common.{◌≡◌, ℕ, zero, suc, ◌+◌, ◌-◌, ◌<◌, ◌≤◌, Bool, true, false, List, [], ◌∷◌, Result, Ok, Err, chars, refl, ap, ◌∙◌, arith}
-use Rattle.xml_grammar.specs.TextReading.{Stop, Syntax, Faulty, Reader, ◌>>=◌, read_sequence, read_valued}
-use Rattle.xml_grammar.specs.readers.Functions.{read_at_most, read_many, read_between}
+use Rattle.xml_grammar.specs.TextReading.{Stop, Syntax, Faulty, Reader, ◌>>=◌, read_sequence, read_mapped}
+use Rattle.xml_grammar.specs.readers.RuleReaders.{read_at_most, read_many, read_between_gaps}
 use Rattle.xml_tokens.specs.declared.fault_kind.FaultKind.{FaultKind}
 use Rattle.xml_tokens.specs.declared.parse_error.ParseError.{ParseError as CodeStop}
 use Rattle.xml_tokens.specs.declared.parse_error.ParseError.TheVariants as stops
-use Rattle.xml_tokens.specs.readers.Results.{Fails}
+use Rattle.xml_tokens.specs.readers.ReadResults.{IsSameStop}
 
 -- the result of adding members to what there is
 abbrev pub finish : {A S B : Type 0} → (S → List A → B) → S → Result (List A × List ℕ) (Stop FaultKind) → Result (B × List ℕ) (Stop FaultKind)
@@ -23,7 +23,7 @@ first_fails {A} {B} p q text e h = ap (λ (r : Result (A × List ℕ) (Stop Faul
 
 -- where the loop begins, after the first gap
 module _ {A G B : Type 0} (test : List ℕ → Bool) (gap : Reader FaultKind G) (member : Reader FaultKind A) (f : G × List (A × G) → B) where
-  pub start : (text first_left : List ℕ) (first : G) → gap text ≡ Ok (first, first_left) → read_valued f (read_between test gap member) text ≡ finish (λ a xs. f (a, xs)) first (read_many test (read_sequence member (λ _. gap)) first_left)
+  pub start : (text first_left : List ℕ) (first : G) → gap text ≡ Ok (first, first_left) → read_mapped f (read_between_gaps test gap member) text ≡ finish (λ a xs. f (a, xs)) first (read_many test (read_sequence member (λ _. gap)) first_left)
   start text first_left first h =
       ap (λ (r : Result (G × List ℕ) (Stop FaultKind)). (r >>= λ x. read_many test (read_sequence member (λ _. gap)) x.1 >>= λ y. let z : (G × List (A × G)) × List ℕ = ((x.0, y.0), y.1) in Ok z) >>= λ x. Ok (f x.0, x.1)) h
       ∙ by_out (read_many test (read_sequence member (λ _. gap)) first_left)
@@ -61,7 +61,7 @@ module _ {A S B : Type 0} (test : List ℕ → Bool) (p : Reader FaultKind A) (F
   goes_on s t count i rest after x total lt b h j so_far = so_far ∙ more s t rest after x (count - i) (count - (i + 1)) (omega arith) b h j
 
   -- a member that can't be read
-  pub ends : (e : CodeStop) (s : S) (count i : ℕ) (rest : List ℕ) (total : Result (B × List ℕ) (Stop FaultKind)) → i < count → test rest ≡ true → Fails e (p rest) → total ≡ finish F s (read_at_most test p (count - i) rest) → Fails e total
+  pub ends : (e : CodeStop) (s : S) (count i : ℕ) (rest : List ℕ) (total : Result (B × List ℕ) (Stop FaultKind)) → i < count → test rest ≡ true → IsSameStop e (p rest) → total ≡ finish F s (read_at_most test p (count - i) rest) → IsSameStop e total
   ends stops.Memory s count i rest total lt b h so_far = tt
   ends (stops.Syntax left) s count i rest total lt b h so_far = so_far ∙ stopped s rest (count - i) (count - (i + 1)) (Syntax (chars left.now)) (omega arith) b h
   ends (stops.Faulty kind left) s count i rest total lt b h so_far = so_far ∙ stopped s rest (count - i) (count - (i + 1)) (Faulty kind (chars left.now)) (omega arith) b h
@@ -74,7 +74,7 @@ module _ {A S B : Type 0} (test : List ℕ → Bool) (p : Reader FaultKind A) (F
   is_stopped s count i rest total b so_far = so_far ∙ over s rest (count - i) b
 
 -- a sequence whose first part can't be read
-pub first_stops : {A B : Type 0} (p : Reader FaultKind A) (q : A → Reader FaultKind B) (text : List ℕ) (e : CodeStop) → Fails e (p text) → Fails e (read_sequence p q text)
+pub first_stops : {A B : Type 0} (p : Reader FaultKind A) (q : A → Reader FaultKind B) (text : List ℕ) (e : CodeStop) → IsSameStop e (p text) → IsSameStop e (read_sequence p q text)
 first_stops p q text stops.Memory h = tt
 first_stops p q text (stops.Syntax left) h = first_fails p q text (Syntax (chars left.now)) h
 first_stops p q text (stops.Faulty kind left) h = first_fails p q text (Faulty kind (chars left.now)) h
@@ -100,12 +100,12 @@ pub valued_err : {A B : Type 0} (f : A → B) (out : Result (A × List ℕ) (Sto
 valued_err f (Ok x) s h = absurd cc
 valued_err f (Err e) s h = cc
 
-pub valued_stops : {A B : Type 0} (f : A → B) (p : Reader FaultKind A) (text : List ℕ) (e : CodeStop) → Fails e (p text) → Fails e (read_valued f p text)
+pub valued_stops : {A B : Type 0} (f : A → B) (p : Reader FaultKind A) (text : List ℕ) (e : CodeStop) → IsSameStop e (p text) → IsSameStop e (read_mapped f p text)
 valued_stops {A} {B} f p text stops.Memory h = tt
 valued_stops {A} {B} f p text (stops.Syntax left) h = ap (λ (r : Result (A × List ℕ) (Stop FaultKind)). r >>= λ x. let z : B × List ℕ = (f x.0, x.1) in Ok z) h
 valued_stops {A} {B} f p text (stops.Faulty kind left) h = ap (λ (r : Result (A × List ℕ) (Stop FaultKind)). r >>= λ x. let z : B × List ℕ = (f x.0, x.1) in Ok z) h
 
-pub valued_fails : {A B : Type 0} (f : A → B) (p : Reader FaultKind A) (text : List ℕ) (e : CodeStop) → Fails e (read_valued f p text) → Fails e (p text)
+pub valued_fails : {A B : Type 0} (f : A → B) (p : Reader FaultKind A) (text : List ℕ) (e : CodeStop) → IsSameStop e (read_mapped f p text) → IsSameStop e (p text)
 valued_fails f p text stops.Memory h = tt
 valued_fails f p text (stops.Syntax left) h = valued_err f (p text) (Syntax (chars left.now)) h
 valued_fails f p text (stops.Faulty kind left) h = valued_err f (p text) (Faulty kind (chars left.now)) h

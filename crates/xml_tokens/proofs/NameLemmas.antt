@@ -4,23 +4,23 @@ use Rattle.std.specs.Prelude.{nat_eq}
 use Rattle.std.proofs.lemmas.List.{length-append}
 use Rattle.xml_grammar.specs.TextReading.{Stop, Syntax, ◌>>=◌, read_word}
 use Rattle.xml_tokens.specs.declared.fault_kind.FaultKind.{FaultKind}
-use Rattle.xml_tokens.specs.Values.{written_by}
+use Rattle.xml_tokens.specs.Values.{qname_text_of}
 
 -- with a prefix: the prefix, a colon and the local part
-pub prefixed : (p l : List ℕ) → 0 < length p → written_by p l ≡ p ++ (58 ∷ l)
+pub prefixed : (p l : List ℕ) → 0 < length p → qname_text_of p l ≡ p ++ (58 ∷ l)
 prefixed [] l h = absurd (omega arith)
 prefixed (c ∷ cs) l h = refl
 
-pub prefixed_size : (p l : List ℕ) → 0 < length p → length (written_by p l) ≡ length p + 1 + length l
+pub prefixed_size : (p l : List ℕ) → 0 < length p → length (qname_text_of p l) ≡ length p + 1 + length l
 prefixed_size [] l h = absurd (omega arith)
 prefixed_size (c ∷ cs) l h = omega (arith, length-append cs (58 ∷ l))
 
-pub bare_size : (p l : List ℕ) → length p ≡ 0 → length (written_by p l) ≡ length l
+pub bare_size : (p l : List ℕ) → length p ≡ 0 → length (qname_text_of p l) ≡ length l
 bare_size [] l h = refl
 bare_size (c ∷ cs) l h = absurd (omega (arith, h))
 
 -- its parts are no longer than the name
-pub parts_size : (p l : List ℕ) → length p + length l ≤ length (written_by p l)
+pub parts_size : (p l : List ℕ) → length p + length l ≤ length (qname_text_of p l)
 parts_size [] l = omega arith
 parts_size (c ∷ cs) l = omega (arith, prefixed_size (c ∷ cs) l (omega arith))
 

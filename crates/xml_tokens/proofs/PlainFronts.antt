@@ -3,22 +3,22 @@ use Rattle.std.proofs.Common.{◌≡◌, ℕ, ◌≤◌, ◌≢◌, Bool, true, 
 use Rattle.std.specs.List.{list_all}
 use Rattle.std.specs.Prelude.{nat_eq, nat_le, not}
 use Rattle.std.proofs.lemmas.Bool.{and_parts, eqb-true, le-leb, ne_eqb}
-use Rattle.xml_grammar.specs.TextReading.{Stop, front_of, after_front}
-use Rattle.xml_grammar.specs.readers.Functions.{front_without, after_without}
+use Rattle.xml_grammar.specs.TextReading.{Stop, take_while, drop_while}
+use Rattle.xml_grammar.specs.readers.RuleReaders.{take_while_without, drop_while_without}
 use Rattle.std.specs.Int.{is_in_range as within}
 use Rattle.xml_tokens.specs.declared.fault_kind.FaultKind.{FaultKind}
-use Rattle.xml_tokens.specs.Tokens.{is_quote, is_raw, is_raw_in}
-use Rattle.xml_tokens.specs.readers.ValueParts.{read_blanked}
-use Rattle.xml_tokens.specs.Values.{line_ends, raw}
+use Rattle.xml_tokens.specs.Tokens.{is_quote, is_raw_char, is_raw_value_char}
+use Rattle.xml_tokens.specs.readers.ValueParts.{read_normalized_raw}
+use Rattle.xml_tokens.specs.Values.{normalize_line_ends, normalized_raw}
 use Rattle.xml_tokens.specs.readers.Tokens.{read_chars}
-use Rattle.xml_tokens.specs.readers.Runs.{is_no_return, is_smooth, is_plain_in_content, is_plain_in_value, ends_run}
-use Rattle.xml_tokens.specs.readers.Words.{section_end}
+use Rattle.xml_tokens.specs.readers.CharacterRuns.{is_not_return, is_not_control, is_plain_in_content, is_plain_in_value, ends_run}
+use Rattle.xml_tokens.specs.readers.Literals.{cdata_end}
 use Rattle.xml_tokens.proofs.PlainRuns.{plain_lines, smooth_raw}
 use Rattle.xml_tokens.proofs.RawLetters.{bounds}
 
 -- characters that are raw and read as themselves
 record IsPrinted (c : ℕ) : Type 0 where
-  stands : is_raw c ≡ true
+  stands : is_raw_char c ≡ true
   smooth : nat_le 32 c ≡ true
   no_return : nat_eq c 13 ≡ false
 
@@ -34,7 +34,7 @@ printed c low high amp less = record {
 
 -- characters that are so in content, whatever surrounds them
 record IsInner (c : ℕ) : Type 0 where
-  stands : is_raw c ≡ true
+  stands : is_raw_char c ≡ true
   no_bracket : nat_eq 93 c ≡ false
   no_return : nat_eq c 13 ≡ false
 
@@ -111,15 +111,15 @@ value_by c false false false false false i j k l m h = absurd cc
 plain_unquoted : (c : ℕ) → is_plain_in_value c ≡ true → IsUnquoted c
 plain_unquoted c h = value_by c (within 40 59 c) (within 61 126 c) (within 35 37 c) (nat_eq c 32) (nat_eq c 33) refl refl refl refl refl h
 
-is_other : (quote c : ℕ) (a b : Bool) → nat_eq quote 34 ≡ a → nat_eq quote 39 ≡ b → (a || b) ≡ true → IsUnquoted c → nat_eq c quote ≡ false
-is_other quote c true b i j h plain = subst (λ (q : ℕ). nat_eq c q ≡ false) (sym (eqb-true quote 34 i)) plain.no_quote
-is_other quote c false true i j h plain = subst (λ (q : ℕ). nat_eq c q ≡ false) (sym (eqb-true quote 39 j)) plain.no_apostrophe
-is_other quote c false false i j h plain = absurd cc
+is_different_char : (quote c : ℕ) (a b : Bool) → nat_eq quote 34 ≡ a → nat_eq quote 39 ≡ b → (a || b) ≡ true → IsUnquoted c → nat_eq c quote ≡ false
+is_different_char quote c true b i j h plain = subst (λ (q : ℕ). nat_eq c q ≡ false) (sym (eqb-true quote 34 i)) plain.no_quote
+is_different_char quote c false true i j h plain = subst (λ (q : ℕ). nat_eq c q ≡ false) (sym (eqb-true quote 39 j)) plain.no_apostrophe
+is_different_char quote c false false i j h plain = absurd cc
 
-plain_raw_in : (quote : ℕ) → is_quote quote ≡ true → (c : ℕ) → is_plain_in_value c ≡ true → is_raw_in quote c ≡ true
+plain_raw_in : (quote : ℕ) → is_quote quote ≡ true → (c : ℕ) → is_plain_in_value c ≡ true → is_raw_value_char quote c ≡ true
 plain_raw_in quote given c h =
     let plain = plain_unquoted c h in
-    both_true (is_raw c) (not (nat_eq c quote)) plain.printed.stands (ap not (is_other quote c (nat_eq quote 34) (nat_eq quote 39) refl refl given plain))
+    both_true (is_raw_char c) (not (nat_eq c quote)) plain.printed.stands (ap not (is_different_char quote c (nat_eq quote 34) (nat_eq quote 39) refl refl given plain))
   where
     both_true : (a b : Bool) → a ≡ true → b ≡ true → (a && b) ≡ true
     both_true a b i j = rw (i, j) refl
@@ -132,21 +132,21 @@ all_by p q each (c ∷ cs) h =
     rw (each c both.0) (all_by p q each cs both.1)
 
 -- they are read as themselves
-content_lines : (cs : List ℕ) → list_all is_plain_in_content cs ≡ true → line_ends cs ≡ cs
-content_lines cs h = plain_lines cs (all_by is_plain_in_content is_no_return (λ c i. ap not (plain_inner c i).no_return) cs h)
+content_lines : (cs : List ℕ) → list_all is_plain_in_content cs ≡ true → normalize_line_ends cs ≡ cs
+content_lines cs h = plain_lines cs (all_by is_plain_in_content is_not_return (λ c i. ap not (plain_inner c i).no_return) cs h)
 
-value_raw : (cs : List ℕ) → list_all is_plain_in_value cs ≡ true → raw cs ≡ cs
-value_raw cs h = smooth_raw cs (all_by is_plain_in_value is_smooth (λ c i. (plain_unquoted c i).printed.smooth) cs h)
+value_raw : (cs : List ℕ) → list_all is_plain_in_value cs ≡ true → normalized_raw cs ≡ cs
+value_raw cs h = smooth_raw cs (all_by is_plain_in_value is_not_control (λ c i. (plain_unquoted c i).printed.smooth) cs h)
 
 -- a run of characters that pass, before one that doesn't
-module _ (p q : ℕ → Bool) (each : (c : ℕ) → q c ≡ true → p c ≡ true) (rest : List ℕ) (none : front_of p rest ≡ []) (all : after_front p rest ≡ rest) where
-  pub front_is : (front : List ℕ) → list_all q front ≡ true → front_of p (front ++ rest) ≡ front
+module _ (p q : ℕ → Bool) (each : (c : ℕ) → q c ≡ true → p c ≡ true) (rest : List ℕ) (none : take_while p rest ≡ []) (all : drop_while p rest ≡ rest) where
+  pub front_is : (front : List ℕ) → list_all q front ≡ true → take_while p (front ++ rest) ≡ front
   front_is [] h = none
   front_is (c ∷ front) h =
       let both = and_parts (q c) (list_all q front) h in
       rw (each c both.0) (ap (λ (z : List ℕ). c ∷ z) (front_is front both.1))
 
-  pub rest_is : (front : List ℕ) → list_all q front ≡ true → after_front p (front ++ rest) ≡ rest
+  pub rest_is : (front : List ℕ) → list_all q front ≡ true → drop_while p (front ++ rest) ≡ rest
   rest_is [] h = all
   rest_is (c ∷ front) h =
       let both = and_parts (q c) (list_all q front) h in
@@ -154,14 +154,14 @@ module _ (p q : ℕ → Bool) (each : (c : ℕ) → q c ≡ true → p c ≡ tru
 
 -- a run where `]]>` isn't allowed, and none of the characters is a `]`
 module _ (p q : ℕ → Bool) (each : (c : ℕ) → q c ≡ true → p c ≡ true) (other : (c : ℕ) → q c ≡ true → nat_eq 93 c ≡ false) (rest : List ℕ)
-    (none : front_without p section_end rest ≡ []) (all : after_without p section_end rest ≡ rest) where
-  front_without_is : (front : List ℕ) → list_all q front ≡ true → front_without p section_end (front ++ rest) ≡ front
+    (none : take_while_without p cdata_end rest ≡ []) (all : drop_while_without p cdata_end rest ≡ rest) where
+  front_without_is : (front : List ℕ) → list_all q front ≡ true → take_while_without p cdata_end (front ++ rest) ≡ front
   front_without_is [] h = none
   front_without_is (c ∷ front) h =
       let both = and_parts (q c) (list_all q front) h in
       rw (other c both.0) (rw (each c both.0) (ap (λ (z : List ℕ). c ∷ z) (front_without_is front both.1)))
 
-  rest_without_is : (front : List ℕ) → list_all q front ≡ true → after_without p section_end (front ++ rest) ≡ rest
+  rest_without_is : (front : List ℕ) → list_all q front ≡ true → drop_while_without p cdata_end (front ++ rest) ≡ rest
   rest_without_is [] h = all
   rest_without_is (c ∷ front) h =
       let both = and_parts (q c) (list_all q front) h in
@@ -172,12 +172,12 @@ answer f x y u v w h i j = rw h (rw (i, j) refl)
 
 -- # Content
 
-content_ends_by : (c : ℕ) (cs : List ℕ) (a b : Bool) → nat_eq c 60 ≡ a → nat_eq c 38 ≡ b → (a || b) ≡ true → (front_without is_raw section_end (c ∷ cs) ≡ []) × (after_without is_raw section_end (c ∷ cs) ≡ c ∷ cs)
+content_ends_by : (c : ℕ) (cs : List ℕ) (a b : Bool) → nat_eq c 60 ≡ a → nat_eq c 38 ≡ b → (a || b) ≡ true → (take_while_without is_raw_char cdata_end (c ∷ cs) ≡ []) × (drop_while_without is_raw_char cdata_end (c ∷ cs) ≡ c ∷ cs)
 content_ends_by c cs true b i j h = let z = eqb-true c 60 i in rw z (refl, refl)
 content_ends_by c cs false true i j h = let z = eqb-true c 38 j in rw z (refl, refl)
 content_ends_by c cs false false i j h = absurd cc
 
-content_ends : (rest : List ℕ) → ends_run 60 rest ≡ true → (front_without is_raw section_end rest ≡ []) × (after_without is_raw section_end rest ≡ rest)
+content_ends : (rest : List ℕ) → ends_run 60 rest ≡ true → (take_while_without is_raw_char cdata_end rest ≡ []) × (drop_while_without is_raw_char cdata_end rest ≡ rest)
 content_ends [] h = absurd cc
 content_ends (c ∷ cs) h = content_ends_by c cs (nat_eq c 60) (nat_eq c 38) refl refl h
 
@@ -186,15 +186,15 @@ plain_chars text front rest whole h e =
     let none = content_ends rest e in
     let stands = λ (c : ℕ) (i : is_plain_in_content c ≡ true). (plain_inner c i).stands in
     let other = λ (c : ℕ) (i : is_plain_in_content c ≡ true). (plain_inner c i).no_bracket in
-    ap read_chars whole ∙ answer line_ends _ _ front rest front
-    (front_without_is is_raw is_plain_in_content stands other rest none.0 none.1 front h)
-    (rest_without_is is_raw is_plain_in_content stands other rest none.0 none.1 front h)
+    ap read_chars whole ∙ answer normalize_line_ends _ _ front rest front
+    (front_without_is is_raw_char is_plain_in_content stands other rest none.0 none.1 front h)
+    (rest_without_is is_raw_char is_plain_in_content stands other rest none.0 none.1 front h)
     (content_lines front h)
 
 -- # Values
 
-value_ends_by : (quote c : ℕ) (cs : List ℕ) (a b : Bool) → nat_eq c quote ≡ a → nat_eq c 38 ≡ b → (a || b) ≡ true → is_raw_in quote c ≡ false
-value_ends_by quote c cs true b i j h = rw i (never (is_raw c))
+value_ends_by : (quote c : ℕ) (cs : List ℕ) (a b : Bool) → nat_eq c quote ≡ a → nat_eq c 38 ≡ b → (a || b) ≡ true → is_raw_value_char quote c ≡ false
+value_ends_by quote c cs true b i j h = rw i (never (is_raw_char c))
   where
     never : (b : Bool) → (b && false) ≡ false
     never true = refl
@@ -202,17 +202,17 @@ value_ends_by quote c cs true b i j h = rw i (never (is_raw c))
 value_ends_by quote c cs false true i j h = let z = eqb-true c 38 j in rw z refl
 value_ends_by quote c cs false false i j h = absurd cc
 
-value_ends : (quote : ℕ) (rest : List ℕ) → ends_run quote rest ≡ true → (front_of (is_raw_in quote) rest ≡ []) × (after_front (is_raw_in quote) rest ≡ rest)
+value_ends : (quote : ℕ) (rest : List ℕ) → ends_run quote rest ≡ true → (take_while (is_raw_value_char quote) rest ≡ []) × (drop_while (is_raw_value_char quote) rest ≡ rest)
 value_ends quote [] h = absurd cc
-value_ends quote (c ∷ cs) h = by (is_raw_in quote) (value_ends_by quote c cs (nat_eq c quote) (nat_eq c 38) refl refl h)
+value_ends quote (c ∷ cs) h = by (is_raw_value_char quote) (value_ends_by quote c cs (nat_eq c quote) (nat_eq c 38) refl refl h)
   where
-    by : (p : ℕ → Bool) → p c ≡ false → (front_of p (c ∷ cs) ≡ []) × (after_front p (c ∷ cs) ≡ c ∷ cs)
+    by : (p : ℕ → Bool) → p c ≡ false → (take_while p (c ∷ cs) ≡ []) × (drop_while p (c ∷ cs) ≡ c ∷ cs)
     by p i = rw i (refl, refl)
 
-pub plain_blanked : (quote : ℕ) (text front rest : List ℕ) → is_quote quote ≡ true → text ≡ front ++ rest → list_all is_plain_in_value front ≡ true → ends_run quote rest ≡ true → read_blanked quote text ≡ Ok (front, rest)
+pub plain_blanked : (quote : ℕ) (text front rest : List ℕ) → is_quote quote ≡ true → text ≡ front ++ rest → list_all is_plain_in_value front ≡ true → ends_run quote rest ≡ true → read_normalized_raw quote text ≡ Ok (front, rest)
 plain_blanked quote text front rest given whole h e =
     let none = value_ends quote rest e in
-    ap (read_blanked quote) whole ∙ answer raw _ _ front rest front
-    (front_is (is_raw_in quote) is_plain_in_value (plain_raw_in quote given) rest none.0 none.1 front h)
-    (rest_is (is_raw_in quote) is_plain_in_value (plain_raw_in quote given) rest none.0 none.1 front h)
+    ap (read_normalized_raw quote) whole ∙ answer normalized_raw _ _ front rest front
+    (front_is (is_raw_value_char quote) is_plain_in_value (plain_raw_in quote given) rest none.0 none.1 front h)
+    (rest_is (is_raw_value_char quote) is_plain_in_value (plain_raw_in quote given) rest none.0 none.1 front h)
     (value_raw front h)

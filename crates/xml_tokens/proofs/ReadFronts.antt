@@ -3,8 +3,8 @@ use Rattle.std.proofs.Common.{◌≡◌, ℕ, zero, suc, ◌-◌, ◌<◌, ◌�
 use Rattle.std.proofs.lemmas.Str.{length-le-encodes}
 use Rattle.std.specs.Prelude.{nat_eq, Option, None}
 use Rattle.xml_grammar.specs.Rules.{AllPass}
-use Rattle.xml_grammar.specs.TextReading.{Stop, Reader, ◌>>=◌, head_is, read_one, read_word, read_run, read_sequence, read_valued}
-use Rattle.xml_grammar.specs.readers.Functions.{read_either, read_at_most, read_many, read_with_length, read_atomic, read_judged, read_between, read_name_of, read_before, read_after, read_quoted}
+use Rattle.xml_grammar.specs.TextReading.{Stop, Reader, ◌>>=◌, first_char_is, read_one_char, read_word, read_run, read_sequence, read_mapped}
+use Rattle.xml_grammar.specs.readers.RuleReaders.{read_either, read_at_most, read_many, read_with_length, read_atomic, read_with_value_marks, read_between_gaps, read_name_rule, read_first, read_second, read_quoted}
 use Rattle.xml_tokens.specs.declared.fault_kind.FaultKind.{FaultKind}
 
 -- the text is read as this value, up to this rest
@@ -16,13 +16,13 @@ pub record Reads {A : Type 0} (p : Reader FaultKind A) (text : List ℕ) (a : A)
 pub reads_sequence : {A B : Type 0} {p : Reader FaultKind A} (q : A → Reader FaultKind B) {text mid rest : List ℕ} {a : A} {b : B} → Reads p text a mid → Reads (q a) mid b rest → Reads (read_sequence p q) text (a, b) rest
 reads_sequence q h k = record { read = rw h.read (rw k.read refl) }
 
-pub reads_valued : {A B : Type 0} {p : Reader FaultKind A} {text rest : List ℕ} {a : A} (f : A → B) → Reads p text a rest → Reads (read_valued f p) text (f a) rest
+pub reads_valued : {A B : Type 0} {p : Reader FaultKind A} {text rest : List ℕ} {a : A} (f : A → B) → Reads p text a rest → Reads (read_mapped f p) text (f a) rest
 reads_valued f h = record { read = rw h.read refl }
 
-pub reads_before : {A B : Type 0} {p : Reader FaultKind A} {q : Reader FaultKind B} {text mid rest : List ℕ} {a : A} {b : B} → Reads p text a mid → Reads q mid b rest → Reads (read_before p q) text a rest
+pub reads_before : {A B : Type 0} {p : Reader FaultKind A} {q : Reader FaultKind B} {text mid rest : List ℕ} {a : A} {b : B} → Reads p text a mid → Reads q mid b rest → Reads (read_first p q) text a rest
 reads_before h k = record { read = rw h.read (rw k.read refl) }
 
-pub reads_behind : {A B : Type 0} {p : Reader FaultKind A} {q : Reader FaultKind B} {text mid rest : List ℕ} {a : A} {b : B} → Reads p text a mid → Reads q mid b rest → Reads (read_after p q) text b rest
+pub reads_behind : {A B : Type 0} {p : Reader FaultKind A} {q : Reader FaultKind B} {text mid rest : List ℕ} {a : A} {b : B} → Reads p text a mid → Reads q mid b rest → Reads (read_second p q) text b rest
 reads_behind h k = record { read = rw h.read (rw k.read refl) }
 
 pub reads_left : {A : Type 0} (test : List ℕ → Bool) {p : Reader FaultKind A} (q : Reader FaultKind A) {text rest : List ℕ} {a : A} → test text ≡ true → Reads p text a rest → Reads (read_either test p q) text a rest
@@ -34,7 +34,7 @@ reads_right test p t h = record { read = rw t h.read }
 pub reads_atomic : {A : Type 0} {p : Reader FaultKind A} {text rest : List ℕ} {a : A} → Reads p text a rest → Reads (read_atomic p) text a rest
 reads_atomic h = record { read = rw h.read refl }
 
-pub reads_judged : {A : Type 0} {p : Reader FaultKind A} {text rest : List ℕ} {a : A} (judge : A → Option (FaultKind × ℕ)) → judge a ≡ None → Reads p text a rest → Reads (read_judged judge p) text a rest
+pub reads_judged : {A : Type 0} {p : Reader FaultKind A} {text rest : List ℕ} {a : A} (judge : A → Option (FaultKind × ℕ)) → judge a ≡ None → Reads p text a rest → Reads (read_with_value_marks judge p) text a rest
 reads_judged judge j h = record { read = rw h.read (rw j refl) }
 
 pub sized_by : {A : Type 0} {p : Reader FaultKind A} {text rest : List ℕ} {a : A} (n : ℕ) → length text - length rest ≡ n → Reads p text a rest → Reads (read_with_length p) text (a, n) rest
@@ -55,26 +55,26 @@ word_before w text rest whole = ap (read_word w) whole ∙ word_read w rest
 pub reads_word : (w rest : List ℕ) → Reads (read_word w) (w ++ rest) tt rest
 reads_word w rest = record { read = word_read w rest }
 
-pub reads_one : (p : ℕ → Bool) (c : ℕ) (rest : List ℕ) → p c ≡ true → Reads (read_one p) (c ∷ rest) c rest
+pub reads_one : (p : ℕ → Bool) (c : ℕ) (rest : List ℕ) → p c ≡ true → Reads (read_one_char p) (c ∷ rest) c rest
 reads_one p c rest h = record { read = rw h refl }
 
 -- the text doesn't begin with a character of the class
-pub reads_none : (p : ℕ → Bool) (rest : List ℕ) → head_is p rest ≡ false → Reads (read_run p) rest [] rest
+pub reads_none : (p : ℕ → Bool) (rest : List ℕ) → first_char_is p rest ≡ false → Reads (read_run p) rest [] rest
 reads_none p [] h = record { read = refl }
 reads_none p (d ∷ ds) h = record { read = rw h refl }
 
 pub reads_more : (p : ℕ → Bool) (c : ℕ) {text cs rest : List ℕ} → p c ≡ true → Reads (read_run p) text cs rest → Reads (read_run p) (c ∷ text) (c ∷ cs) rest
 reads_more p c h k = record { read = rw h (ap (λ (r : Result (List ℕ × List ℕ) (Stop FaultKind)). r >>= λ z. let w : List ℕ × List ℕ = (c ∷ z.0, z.1) in Ok w) k.read) }
 
-pub reads_run : (p : ℕ → Bool) (cs rest : List ℕ) → AllPass p cs → head_is p rest ≡ false → Reads (read_run p) (cs ++ rest) cs rest
+pub reads_run : (p : ℕ → Bool) (cs rest : List ℕ) → AllPass p cs → first_char_is p rest ≡ false → Reads (read_run p) (cs ++ rest) cs rest
 reads_run p [] rest h e = reads_none p rest e
 reads_run p (c ∷ cs) rest h e = reads_more p c h.0 (reads_run p cs rest h.1 e)
 
-pub reads_name_of : (first others : ℕ → Bool) (c : ℕ) (cs rest : List ℕ) → first c ≡ true → AllPass others cs → head_is others rest ≡ false → Reads (read_name_of first others) (c ∷ (cs ++ rest)) (c ∷ cs) rest
+pub reads_name_of : (first others : ℕ → Bool) (c : ℕ) (cs rest : List ℕ) → first c ≡ true → AllPass others cs → first_char_is others rest ≡ false → Reads (read_name_rule first others) (c ∷ (cs ++ rest)) (c ∷ cs) rest
 reads_name_of first others c cs rest h k e = reads_valued (λ x. x.0 ∷ x.1) (reads_sequence (λ _. read_run others) (reads_one first c (cs ++ rest) h) (reads_run others cs rest k e))
 
 pub reads_quoted : {A : Type 0} (is_quote : ℕ → Bool) (inside : ℕ → Reader FaultKind A) {text rest : List ℕ} {a : A} (q : ℕ) → is_quote q ≡ true → Reads (inside q) text a (q ∷ rest) → Reads (read_quoted is_quote inside) (q ∷ text) a rest
-reads_quoted is_quote inside {text = text} {rest = rest} q h k = reads_valued (λ x. x.1) (reads_sequence (λ z. read_before (inside z) (read_word (z ∷ []))) (reads_one is_quote q text h) (reads_before k (reads_word (q ∷ []) rest)))
+reads_quoted is_quote inside {text = text} {rest = rest} q h k = reads_valued (λ x. x.1) (reads_sequence (λ z. read_first (inside z) (read_word (z ∷ []))) (reads_one is_quote q text h) (reads_before k (reads_word (q ∷ []) rest)))
 
 -- ---- repetitions
 
@@ -101,7 +101,7 @@ pub record AreBetween {A B : Type 0} (test : List ℕ → Bool) (gap : Reader Fa
   pub shorter : length next ≤ length text
   pub members : AllRead test (read_sequence member (λ _. gap)) xs next tail
 
-pub reads_between : {A B : Type 0} {test : List ℕ → Bool} {gap : Reader FaultKind A} {member : Reader FaultKind B} {text tail : List ℕ} {x : A} {xs : List (B × A)} → AreBetween test gap member text x xs tail → Reads (read_between test gap member) text (x, xs) tail
+pub reads_between : {A B : Type 0} {test : List ℕ → Bool} {gap : Reader FaultKind A} {member : Reader FaultKind B} {text tail : List ℕ} {x : A} {xs : List (B × A)} → AreBetween test gap member text x xs tail → Reads (read_between_gaps test gap member) text (x, xs) tail
 reads_between {test = test} {gap = gap} {member = member} {tail = tail} {xs = xs} h = reads_sequence (λ _. read_many test (read_sequence member (λ _. gap))) h.first (reads_many test (read_sequence member (λ _. gap)) xs h.next tail h.members)
 
 -- nothing but an empty gap

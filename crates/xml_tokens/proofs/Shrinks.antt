@@ -2,10 +2,10 @@
 use Rattle.std.proofs.Common.{◌≡◌, ℕ, zero, suc, ◌+◌, ◌*◌, ◌≤◌, Bool, true, false, cond, List, [], ◌∷◌, ◌++◌, length, length-append, Result, Ok, Err, encode_utf8_all, refl, sym, ap, ◌∙◌, append_assoc, subst, arith}
 use Rattle.std.specs.Prelude.{nat_eq, nat_le}
 use Rattle.xml_grammar.specs.Digits.{Digits}
-use Rattle.xml_grammar.specs.TextReading.{Stop, Syntax, Reader, ◌>>=◌, after_front, read_one, read_word, read_run, read_sequence, read_valued}
-use Rattle.xml_grammar.specs.readers.Functions.{number_end, read_digits, read_number, read_either, read_at_most, read_many, read_empty}
+use Rattle.xml_grammar.specs.TextReading.{Stop, Syntax, Reader, ◌>>=◌, drop_while, read_one_char, read_word, read_run, read_sequence, read_mapped}
+use Rattle.xml_grammar.specs.readers.RuleReaders.{number_end, read_digits, read_number, read_either, read_at_most, read_many, read_empty}
 use Rattle.xml_tokens.specs.declared.fault_kind.FaultKind.{FaultKind}
-use Rattle.xml_grammar.specs.readers.Ends.{EndsWith}
+use Rattle.xml_grammar.specs.readers.Suffixes.{EndsWith}
 
 abbrev pub Left : {A : Type 0} → List ℕ → Result (A × List ℕ) (Stop FaultKind) → Type 0
 Left text (Ok x) = EndsWith text x.1
@@ -45,11 +45,11 @@ left_cond text false p q h i = i
 
 -- # Readers
 
-left_one : (p : ℕ → Bool) (text : List ℕ) → Left text (read_one p text)
+left_one : (p : ℕ → Bool) (text : List ℕ) → Left text (read_one_char p text)
 left_one p [] = tt
 left_one p (c ∷ cs) = left_cond (c ∷ cs) (p c) (Ok (c, cs)) (Err (Syntax (c ∷ cs))) (one_left c cs) tt
 
-pub shrinks_one : (p : ℕ → Bool) → Shrinks (read_one p)
+pub shrinks_one : (p : ℕ → Bool) → Shrinks (read_one_char p)
 shrinks_one p = record { by = left_one p }
 
 left_word : (w text : List ℕ) → Left text (read_word w text)
@@ -64,9 +64,9 @@ after_by : (b : Bool) (c : ℕ) (cs left : List ℕ) → EndsWith cs left → En
 after_by true c cs left h = more_left (c ∷ cs) cs left (one_left c cs) h
 after_by false c cs left h = all_left (c ∷ cs)
 
-left_run : (p : ℕ → Bool) (text : List ℕ) → EndsWith text (after_front p text)
+left_run : (p : ℕ → Bool) (text : List ℕ) → EndsWith text (drop_while p text)
 left_run p [] = all_left []
-left_run p (c ∷ cs) = after_by (p c) c cs (after_front p cs) (left_run p cs)
+left_run p (c ∷ cs) = after_by (p c) c cs (drop_while p cs) (left_run p cs)
 
 pub shrinks_run : (p : ℕ → Bool) → Shrinks (read_run p)
 shrinks_run p = record { by = left_run p }
@@ -95,7 +95,7 @@ shrinks_sequence {A} {B} {p} {q} h i = record {
       (λ x e. left_under text x.1 (q x.0 x.1 >>= λ y. Ok ((x.0, y.0), y.1)) e (left_then x.1 (q x.0 x.1) (λ y. Ok ((x.0, y.0), y.1)) ((i x.0).by x.1) (λ y e. e)));
 }
 
-pub shrinks_valued : {A B : Type 0} {p : Reader FaultKind A} (f : A → B) → Shrinks p → Shrinks (read_valued f p)
+pub shrinks_valued : {A B : Type 0} {p : Reader FaultKind A} (f : A → B) → Shrinks p → Shrinks (read_mapped f p)
 shrinks_valued {A} {B} {p} f h = record { by = λ text. left_then text (p text) (λ x. Ok (f x.0, x.1)) (h.by text) (λ x e. e) }
 
 pub shrinks_either : {A : Type 0} {p q : Reader FaultKind A} (test : List ℕ → Bool) → Shrinks p → Shrinks q → Shrinks (read_either test p q)

@@ -11,9 +11,9 @@ use Rattle.std.proofs.Math.Seq.{take-length}
 use Rattle.std.proofs.lemmas.List.Folds.{list_all-append}
 use Rattle.std.proofs.lemmas.Str.{chars-nil, chars-append, encode_ascii, encodes-chars, inside_one, length-le-encodes, IsUtf8-from_ascii, IsCharBoundary-from_take}
 use Rattle.std.proofs.lemmas.Str.Ascii.{IsAscii-nil, IsAscii-cons}
-use Rattle.xml_grammar.specs.TextReading.{head_is, front_of, after_front}
-use Rattle.xml_tokens.specs.readers.Runs.{run_len}
-use Rattle.xml_tokens.specs.readers.Classes.{in_ascii, is_wide}
+use Rattle.xml_grammar.specs.TextReading.{first_char_is, take_while, drop_while}
+use Rattle.xml_tokens.specs.readers.CharacterRuns.{run_len}
+use Rattle.xml_tokens.specs.readers.Classes.{is_ascii_passing, is_non_ascii}
 use Rattle.xml_grammar.proofs.CursorLemmas.{ascii_first}
 use Rattle.xml_tokens.proofs.RunLemmas.{take_run, drop_run, run_len_le}
 
@@ -23,92 +23,92 @@ chars_le bs u = omega (arith, length-le-encodes (chars bs), ap length (encodes-c
 
 -- # Runs
 
-pub all_front : (p : ℕ → Bool) (xs : List ℕ) → list_all p (front_of p xs) ≡ true
+pub all_front : (p : ℕ → Bool) (xs : List ℕ) → list_all p (take_while p xs) ≡ true
 all_front p [] = refl
 all_front p (c ∷ cs) = by (p c) refl (all_front p cs)
   where
-    by : (b : Bool) → p c ≡ b → list_all p (front_of p cs) ≡ true → list_all p (cond b (c ∷ front_of p cs) []) ≡ true
+    by : (b : Bool) → p c ≡ b → list_all p (take_while p cs) ≡ true → list_all p (cond b (c ∷ take_while p cs) []) ≡ true
     by true e more = rw e more
     by false e more = refl
 
-pub front_whole : (p : ℕ → Bool) (xs : List ℕ) → xs ≡ front_of p xs ++ after_front p xs
+pub front_whole : (p : ℕ → Bool) (xs : List ℕ) → xs ≡ take_while p xs ++ drop_while p xs
 front_whole p [] = refl
 front_whole p (c ∷ cs) = by (p c) (front_whole p cs)
   where
-    by : (b : Bool) → cs ≡ front_of p cs ++ after_front p cs → c ∷ cs ≡ cond b (c ∷ front_of p cs) [] ++ cond b (after_front p cs) (c ∷ cs)
+    by : (b : Bool) → cs ≡ take_while p cs ++ drop_while p cs → c ∷ cs ≡ cond b (c ∷ take_while p cs) [] ++ cond b (drop_while p cs) (c ∷ cs)
     by true more = ap (λ (z : List ℕ). c ∷ z) more
     by false more = refl
 
 -- a run by its two parts
-pub run_whole : (p : ℕ → Bool) (text front rest : List ℕ) → front ≡ front_of p text → rest ≡ after_front p text → text ≡ front ++ rest
-run_whole p text front rest h i = front_whole p text ∙ ap (λ (z : List ℕ). z ++ after_front p text) (sym h) ∙ ap (λ (z : List ℕ). front ++ z) (sym i)
+pub run_whole : (p : ℕ → Bool) (text front rest : List ℕ) → front ≡ take_while p text → rest ≡ drop_while p text → text ≡ front ++ rest
+run_whole p text front rest h i = front_whole p text ∙ ap (λ (z : List ℕ). z ++ drop_while p text) (sym h) ∙ ap (λ (z : List ℕ). front ++ z) (sym i)
 
-pub run_all : (p : ℕ → Bool) (text front : List ℕ) → front ≡ front_of p text → list_all p front ≡ true
+pub run_all : (p : ℕ → Bool) (text front : List ℕ) → front ≡ take_while p text → list_all p front ≡ true
 run_all p text front h = ap (list_all p) h ∙ all_front p text
 
-after_fails : (p : ℕ → Bool) (xs : List ℕ) → head_is p (after_front p xs) ≡ false
+after_fails : (p : ℕ → Bool) (xs : List ℕ) → first_char_is p (drop_while p xs) ≡ false
 after_fails p [] = refl
 after_fails p (c ∷ cs) = by (p c) refl (after_fails p cs)
   where
-    by : (b : Bool) → p c ≡ b → head_is p (after_front p cs) ≡ false → head_is p (cond b (after_front p cs) (c ∷ cs)) ≡ false
+    by : (b : Bool) → p c ≡ b → first_char_is p (drop_while p cs) ≡ false → first_char_is p (cond b (drop_while p cs) (c ∷ cs)) ≡ false
     by true e more = more
     by false e more = e
 
-pub run_stays : (p : ℕ → Bool) (xs : List ℕ) → head_is p xs ≡ false → after_front p xs ≡ xs
+pub run_stays : (p : ℕ → Bool) (xs : List ℕ) → first_char_is p xs ≡ false → drop_while p xs ≡ xs
 run_stays p [] h = refl
 run_stays p (c ∷ cs) h = rw h refl
 
-pub run_goes_on : (p : ℕ → Bool) (xs cs : List ℕ) (c : ℕ) → xs ≡ c ∷ cs → p c ≡ true → after_front p xs ≡ after_front p cs
-run_goes_on p xs cs c is h = ap (after_front p) is ∙ rw h refl
+pub run_goes_on : (p : ℕ → Bool) (xs cs : List ℕ) (c : ℕ) → xs ≡ c ∷ cs → p c ≡ true → drop_while p xs ≡ drop_while p cs
+run_goes_on p xs cs c is h = ap (drop_while p) is ∙ rw h refl
 
-pub run_stops : (p : ℕ → Bool) (xs cs : List ℕ) (c : ℕ) → xs ≡ c ∷ cs → p c ≡ false → after_front p xs ≡ xs
-run_stops p xs cs c is h = run_stays p xs (ap (head_is p) is ∙ h)
+pub run_stops : (p : ℕ → Bool) (xs cs : List ℕ) (c : ℕ) → xs ≡ c ∷ cs → p c ≡ false → drop_while p xs ≡ xs
+run_stops p xs cs c is h = run_stays p xs (ap (first_char_is p) is ∙ h)
 
-pub run_over : (p : ℕ → Bool) (xs : List ℕ) → xs ≡ [] → after_front p xs ≡ xs
-run_over p xs is = ap (after_front p) is ∙ sym is
+pub run_over : (p : ℕ → Bool) (xs : List ℕ) → xs ≡ [] → drop_while p xs ≡ xs
+run_over p xs is = ap (drop_while p) is ∙ sym is
 
 -- # ASCII characters at the front
 
-all_in_ascii : (p : ℕ → Bool) (xs : List ℕ) → list_all (in_ascii p) xs ≡ true → IsAscii xs
+all_in_ascii : (p : ℕ → Bool) (xs : List ℕ) → list_all (is_ascii_passing p) xs ≡ true → IsAscii xs
 all_in_ascii p [] h = IsAscii-nil
 all_in_ascii p (c ∷ cs) h =
-    let both = and_parts (in_ascii p c) (list_all (in_ascii p) cs) h in
+    let both = and_parts (is_ascii_passing p c) (list_all (is_ascii_passing p) cs) h in
     let one = and_parts (nat_lt c 128) (p c) both.0 in
     IsAscii-cons c cs (ltb-true c 128 one.0) (all_in_ascii p cs both.1)
 
-ascii_after : (p : ℕ → Bool) (bs : List ℕ) → after_front p (chars bs) ≡ after_front p (chars (after_front (in_ascii p) bs))
+ascii_after : (p : ℕ → Bool) (bs : List ℕ) → drop_while p (chars bs) ≡ drop_while p (chars (drop_while (is_ascii_passing p) bs))
 ascii_after p [] = refl
-ascii_after p (b ∷ bs) = by (in_ascii p b) refl (ascii_after p bs)
+ascii_after p (b ∷ bs) = by (is_ascii_passing p b) refl (ascii_after p bs)
   where
-    by : (z : Bool) → in_ascii p b ≡ z → after_front p (chars bs) ≡ after_front p (chars (after_front (in_ascii p) bs)) → after_front p (chars (b ∷ bs)) ≡ after_front p (chars (cond z (after_front (in_ascii p) bs) (b ∷ bs)))
+    by : (z : Bool) → is_ascii_passing p b ≡ z → drop_while p (chars bs) ≡ drop_while p (chars (drop_while (is_ascii_passing p) bs)) → drop_while p (chars (b ∷ bs)) ≡ drop_while p (chars (cond z (drop_while (is_ascii_passing p) bs) (b ∷ bs)))
     by true e more = let both = and_parts (nat_lt b 128) (p b) e in run_goes_on p (chars (b ∷ bs)) (chars bs) b (ascii_first b bs (ltb-true b 128 both.0)) both.1 ∙ more
     by false e more = refl
 
-head_fails : (p : ℕ → Bool) (bs : List ℕ) → head_is (in_ascii p) bs ≡ false → head_is is_wide bs ≡ false → head_is p (chars bs) ≡ false
-head_fails p [] h w = ap (head_is p) chars-nil
+head_fails : (p : ℕ → Bool) (bs : List ℕ) → first_char_is (is_ascii_passing p) bs ≡ false → first_char_is is_non_ascii bs ≡ false → first_char_is p (chars bs) ≡ false
+head_fails p [] h w = ap (first_char_is p) chars-nil
 head_fails p (b ∷ bs) h w =
     let low : b < 128 = leb-false 128 b w in
     let fails : p b ≡ false = rw (lt-ltb b 128 low) at h in
-    ap (head_is p) (ascii_first b bs low) ∙ fails
+    ap (first_char_is p) (ascii_first b bs low) ∙ fails
 
-module _ (p : ℕ → Bool) (bs : List ℕ) (n : ℕ) (is : n ≡ run_len (in_ascii p) bs) where
+module _ (p : ℕ → Bool) (bs : List ℕ) (n : ℕ) (is : n ≡ run_len (is_ascii_passing p) bs) where
   -- a text may be split after them
   pub ascii_cut : IsUtf8 bs → IsCharBoundary bs n
   ascii_cut u =
-      let le : n ≤ length bs = omega (arith, is, run_len_le (in_ascii p) bs) in
-      let front : take n bs ≡ front_of (in_ascii p) bs = ap (λ (k : ℕ). take k bs) is ∙ take_run (in_ascii p) bs in
-      let ascii : IsAscii (take n bs) = subst IsAscii (sym front) (all_in_ascii p (front_of (in_ascii p) bs) (all_front (in_ascii p) bs)) in
+      let le : n ≤ length bs = omega (arith, is, run_len_le (is_ascii_passing p) bs) in
+      let front : take n bs ≡ take_while (is_ascii_passing p) bs = ap (λ (k : ℕ). take k bs) is ∙ take_run (is_ascii_passing p) bs in
+      let ascii : IsAscii (take n bs) = subst IsAscii (sym front) (all_in_ascii p (take_while (is_ascii_passing p) bs) (all_front (is_ascii_passing p) bs)) in
       IsCharBoundary-from_take bs n u le (IsUtf8-from_ascii (take n bs) ascii)
 
-  left_is : (rest : List ℕ) → rest ≡ drop n bs → rest ≡ after_front (in_ascii p) bs
-  left_is rest left = left ∙ ap (λ (k : ℕ). drop k bs) is ∙ drop_run (in_ascii p) bs
+  left_is : (rest : List ℕ) → rest ≡ drop n bs → rest ≡ drop_while (is_ascii_passing p) bs
+  left_is rest left = left ∙ ap (λ (k : ℕ). drop k bs) is ∙ drop_run (is_ascii_passing p) bs
 
-  pub behind_ascii : (rest : List ℕ) → rest ≡ drop n bs → after_front p (chars bs) ≡ after_front p (chars rest)
-  behind_ascii rest left = ascii_after p bs ∙ ap (λ (z : List ℕ). after_front p (chars z)) (sym (left_is rest left))
+  pub behind_ascii : (rest : List ℕ) → rest ≡ drop n bs → drop_while p (chars bs) ≡ drop_while p (chars rest)
+  behind_ascii rest left = ascii_after p bs ∙ ap (λ (z : List ℕ). drop_while p (chars z)) (sym (left_is rest left))
 
-  pub behind_run : (rest : List ℕ) → rest ≡ drop n bs → head_is is_wide rest ≡ false → chars rest ≡ after_front p (chars bs)
+  pub behind_run : (rest : List ℕ) → rest ≡ drop n bs → first_char_is is_non_ascii rest ≡ false → chars rest ≡ drop_while p (chars bs)
   behind_run rest left w =
-      let fails : head_is (in_ascii p) rest ≡ false = ap (head_is (in_ascii p)) (left_is rest left) ∙ after_fails (in_ascii p) bs in
+      let fails : first_char_is (is_ascii_passing p) rest ≡ false = ap (first_char_is (is_ascii_passing p)) (left_is rest left) ∙ after_fails (is_ascii_passing p) bs in
       sym (behind_ascii rest left ∙ run_stays p (chars rest) (head_fails p rest fails w))
 
 -- a prefix by what follows it

@@ -1,4 +1,4 @@
-pub mod Places
+pub mod ByteOffsets
 pub mod Tokens
 pub mod Values
 pub mod readers

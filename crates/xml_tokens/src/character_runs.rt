@@ -1,18 +1,19 @@
 //! Runs of characters: raw ones in content, and characters up to a word that ends them.
 ghost use Rattle.std.specs.Prelude.{◌≡◌, ◌==◌, ◌++◌, true, false, [], ◌∷◌, chars, drop, OnOk, IfOk};
 ghost use Rattle.std.specs.Prelude.{IfSome, IfNone, IsTrue, Ok};
-ghost use Rattle.xml_grammar.specs.TextReading.{starts};
-ghost use Rattle.xml_grammar.specs.readers.Functions.{after_without, read_up_to};
+ghost use Rattle.xml_grammar.specs.TextReading.{starts_with_word};
+ghost use Rattle.xml_grammar.specs.readers.RuleReaders.{drop_while_without, read_up_to};
 ghost use Rattle.xml_names.specs.Characters.{is_char};
-ghost use Rattle.xml_tokens.specs.readers.Results.{Gives};
-ghost use Rattle.xml_tokens.specs.Tokens.{is_raw};
-ghost use Rattle.xml_tokens.specs.Values.{line_char, line_ends, same_letters};
+ghost use Rattle.xml_tokens.specs.readers.ReadResults.{IsSameResult};
+ghost use Rattle.xml_tokens.specs.Tokens.{is_raw_char};
+ghost use Rattle.xml_tokens.specs.Values.{normalized_line_char, normalize_line_ends};
+ghost use Rattle.xml_tokens.specs.Values.{equals_ignoring_case};
 ghost use Rattle.xml_tokens.specs.readers.Tokens.{read_raw_run};
 ghost use Rattle.std.specs.List.{list_all, cons_option};
-ghost use Rattle.xml_tokens.specs.readers.Runs.{is_no_return, is_usual};
-ghost use Rattle.xml_tokens.specs.readers.Words.{section_end};
+ghost use Rattle.xml_tokens.specs.readers.CharacterRuns.{is_not_return, is_usual_content_char};
+ghost use Rattle.xml_tokens.specs.readers.Literals.{cdata_end};
 
-use crate::attribute_values::{is_raw, line_char};
+use crate::attribute_values::{is_raw_char, normalized_line_char};
 use crate::parse_error::ParseError;
 use std::alloc::{AllocError, Global};
 use xml_grammar::{split_first, text_before};
@@ -20,9 +21,9 @@ use xml_names::{Text, is_char};
 
 /// What follows a word, if the text begins with it.
 #[inline(always)]
-pub fn after_word<'a>(text: &'a str, word: &[char]) -> Option<&'a str>
+pub fn strip_word<'a>(text: &'a str, word: &[char]) -> Option<&'a str>
     ensures word_and_rest { IfSome result (λ rest. chars text.now ≡ word.now ++ chars rest.now) }
-    ensures none_no_word { IfNone result (starts word.now (chars text.now) ≡ false) }
+    ensures none_no_word { IfNone result (starts_with_word word.now (chars text.now) ≡ false) }
 {
     let mut rest = text;
     for &expected in word {
@@ -41,10 +42,10 @@ pub fn after_word<'a>(text: &'a str, word: &[char]) -> Option<&'a str>
 
 /// Whether a text begins with a word.
 #[inline(always)]
-pub fn starts(text: &str, word: &[char]) -> bool
-    ensures exact { result ≡ starts word.now (chars text.now) }
+pub fn starts_with_word(text: &str, word: &[char]) -> bool
+    ensures exact { result ≡ starts_with_word word.now (chars text.now) }
 {
-    match after_word(text, word) {
+    match strip_word(text, word) {
         Some(_) => true,
         None => false,
     }
@@ -52,8 +53,8 @@ pub fn starts(text: &str, word: &[char]) -> bool
 
 /// Whether these are the letters of a word, in lower or upper case.
 #[tactic(auto, using(crate::proofs::WordLoops::letters_over, crate::proofs::WordLoops::letters_left))]
-pub fn same_letters(text: &str, word: &[char]) -> bool
-    ensures exact { result ≡ same_letters (chars text.now) word.now }
+pub fn equals_ignoring_case(text: &str, word: &[char]) -> bool
+    ensures exact { result ≡ equals_ignoring_case (chars text.now) word.now }
 {
     let mut rest = text;
     for &expected in word {
@@ -75,14 +76,15 @@ pub fn same_letters(text: &str, word: &[char]) -> bool
 }
 
 /// The rest of a text from the `>` on, if the text begins with `]]>`.
-fn at_section_end(text: &str) -> Option<&str>
-    ensures section_ends_here { IfSome result (λ _. starts section_end (chars text.now) ≡ true) }
+fn strip_cdata_end(text: &str) -> Option<&str>
+    ensures section_ends_here { IfSome result
+        (λ _. starts_with_word cdata_end (chars text.now) ≡ true) }
     ensures rest_after_end { IfSome result (λ rest. chars rest.now ≡ drop 2 (chars text.now)) }
-    ensures none_no_end { IfNone result (starts section_end (chars text.now) ≡ false) }
+    ensures none_no_end { IfNone result (starts_with_word cdata_end (chars text.now) ≡ false) }
 {
-    match after_word(text, &[']', ']']) {
+    match strip_word(text, &[']', ']']) {
         Some(rest) => {
-            if !starts(rest, &['>']) {
+            if !starts_with_word(rest, &['>']) {
                 return None;
             }
             Some(rest)
@@ -92,38 +94,38 @@ fn at_section_end(text: &str) -> Option<&str>
 }
 
 /// Whether a character is above `]` and below the surrogates, or is a space or a line end.
-fn is_usual(c: char) -> bool
-    ensures exact { result ≡ is_usual c }
+fn is_usual_content_char(c: char) -> bool
+    ensures exact { result ≡ is_usual_content_char c }
 {
     matches!(c, '^'..='\u{D7FF}') || c == ' ' || c == '\n'
 }
 
 /// Whether a character is raw in content whatever surrounds it. Most characters are.
-fn is_inner(c: char) -> bool
-    ensures inner_is_raw { IsTrue result → IsTrue (is_raw c) }
+fn is_inner_content_char(c: char) -> bool
+    ensures inner_is_raw { IsTrue result → IsTrue (is_raw_char c) }
     ensures no_end { IsTrue result → (93 == c) ≡ false }
 {
-    is_usual(c)
+    is_usual_content_char(c)
 }
 
 /// What follows the raw characters of content, if they end before this first character of a text
 /// or at the `>` that would end `]]>`.
 #[inline(always)]
-fn raw_end<'a>(text: &'a str, first: char, after: &str) -> Option<&'a str>
+fn skip_at_raw_end<'a>(text: &'a str, first: char, after: &str) -> Option<&'a str>
     requires { chars text.now ≡ first ∷ chars after.now }
     ensures some_raw_ends { IfSome result
-        (λ rest. chars rest.now ≡ after_without is_raw section_end (chars text.now)) }
+        (λ rest. chars rest.now ≡ drop_while_without is_raw_char cdata_end (chars text.now)) }
     ensures none_raw_continues { IfNone result
-        (after_without is_raw section_end (chars text.now)
-        ≡ after_without is_raw section_end (chars after.now)) }
+        (drop_while_without is_raw_char cdata_end (chars text.now)
+        ≡ drop_while_without is_raw_char cdata_end (chars after.now)) }
 {
-    if is_inner(first) {
+    if is_inner_content_char(first) {
         return None;
     }
-    if let Some(rest) = at_section_end(text) {
+    if let Some(rest) = strip_cdata_end(text) {
         return Some(rest);
     }
-    if !is_raw(first) {
+    if !is_raw_char(first) {
         return Some(text);
     }
     None
@@ -132,12 +134,12 @@ fn raw_end<'a>(text: &'a str, first: char, after: &str) -> Option<&'a str>
 /// What follows the raw characters of content at the front: a `>` that would end `]]>`, or a
 /// character that isn't raw.
 #[inline(never)]
-fn after_raw(text: &str) -> &str
-    ensures exact { chars result.now ≡ after_without is_raw section_end (chars text.now) }
+fn skip_raw(text: &str) -> &str
+    ensures exact { chars result.now ≡ drop_while_without is_raw_char cdata_end (chars text.now) }
 {
     let mut rest = text;
     'each: while let Some((c, after)) = split_first(rest) {
-        match raw_end(rest, c, after) {
+        match skip_at_raw_end(rest, c, after) {
             Some(end) => return end,
             None => rest = after,
         }
@@ -150,7 +152,7 @@ pub fn content_run(text: &str) -> (&str, &str)
     ensures reads_rule { read_raw_run (chars text.now)
         ≡ Ok (chars result.0.now, chars result.1.now) }
 {
-    let rest = after_raw(text);
+    let rest = skip_raw(text);
     (text_before(text, rest), rest)
 }
 
@@ -160,12 +162,12 @@ pub fn content_run(text: &str) -> (&str, &str)
 /// The stop of the rule, with the rest of the text there.
 #[inline(always)]
 pub fn up_to<'a>(text: &'a str, end: &[char]) -> Result<(&'a str, &'a str), ParseError<'a>>
-    ensures reads_rule { Gives (λ x. (chars x.0.now, chars x.1.now)) result
+    ensures reads_rule { IsSameResult (λ x. (chars x.0.now, chars x.1.now)) result
         (read_up_to is_char end.now (chars text.now)) }
 {
     let mut rest = text;
     'each: while let Some((c, after)) = split_first(rest) {
-        if let Some(behind) = after_word(rest, end) {
+        if let Some(behind) = strip_word(rest, end) {
             return Ok((text_before(text, rest), behind));
         }
         if !is_char(c) {
@@ -179,23 +181,23 @@ pub fn up_to<'a>(text: &'a str, end: &[char]) -> Result<(&'a str, &'a str), Pars
 /// Appends a raw character of content, as read before `after`.
 fn push_char(text: &mut Text, c: char, after: &str) -> Result<(), AllocError>
     ensures appended { OnOk result
-        (text.new ≡ text.old ++ cons_option (line_char c (chars after.now)) []) }
+        (text.new ≡ text.old ++ cons_option (normalized_line_char c (chars after.now)) []) }
 {
-    match line_char(c, after) {
+    match normalized_line_char(c, after) {
         Some(c) => text.push(c),
         None => Ok(()),
     }
 }
 
 fn is_free_of_returns(bytes: &[u8]) -> bool
-    ensures exact { result ≡ list_all is_no_return bytes.now }
+    ensures exact { result ≡ list_all is_not_return bytes.now }
 {
     bytes.iter().all(|&byte| byte != b'\r')
 }
 
 /// Whether a run has no CR, so that it is read as it is.
 fn has_no_return(run: &str) -> bool
-    ensures exact { result ≡ list_all is_no_return (chars run.now) }
+    ensures exact { result ≡ list_all is_not_return (chars run.now) }
 {
     is_free_of_returns(run.as_bytes())
 }
@@ -204,18 +206,18 @@ fn has_no_return(run: &str) -> bool
 ///
 /// # Errors
 /// `NoMemory` when out of memory.
-pub fn lines(alloc: Global, run: &str) -> Result<Text, AllocError>
-    ensures ok { IfOk result (λ text. text ≡ line_ends (chars run.now)) }
+pub fn normalize_lines(alloc: Global, run: &str) -> Result<Text, AllocError>
+    ensures ok { IfOk result (λ text. text ≡ normalize_line_ends (chars run.now)) }
 {
     if has_no_return(run) {
         return Text::from(alloc, run);
     }
-    lines_by_character(alloc, run)
+    normalize_lines_by_character(alloc, run)
 }
 
-/// `lines`, character by character.
-fn lines_by_character(alloc: Global, run: &str) -> Result<Text, AllocError>
-    ensures ok { IfOk result (λ text. text ≡ line_ends (chars run.now)) }
+/// `normalize_lines`, character by character.
+fn normalize_lines_by_character(alloc: Global, run: &str) -> Result<Text, AllocError>
+    ensures ok { IfOk result (λ text. text ≡ normalize_line_ends (chars run.now)) }
 {
     let mut text = Text::with_capacity(alloc, run.len())?;
     let mut rest = run;

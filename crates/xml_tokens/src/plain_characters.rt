@@ -1,7 +1,7 @@
 //! Plain characters: ASCII characters that are read as themselves.
 ghost use Rattle.std.specs.Prelude.{◌≡◌};
-ghost use Rattle.xml_tokens.specs.readers.Runs.{is_plain_in_content, is_plain_in_name};
-ghost use Rattle.xml_tokens.specs.readers.Runs.{is_plain_in_value};
+ghost use Rattle.xml_tokens.specs.readers.CharacterRuns.{is_plain_in_content, is_plain_in_name};
+ghost use Rattle.xml_tokens.specs.readers.CharacterRuns.{is_plain_in_value};
 
 /// Whether a character is an ASCII one that is raw in content whatever surrounds it, and read as
 /// itself.

@@ -2,18 +2,18 @@
 ghost use Rattle.std.specs.Prelude.{◌≡◌, ◌+◌, ◌<◌, ◌≤◌, ◌^◌, suc, [], ◌∷◌, ◌++◌, chars, length};
 ghost use Rattle.std.specs.Prelude.{take, IfOk, IfSome};
 ghost use Rattle.xml_grammar.specs.TextReading.{read_word};
-ghost use Rattle.xml_grammar.specs.readers.Functions.{read_after};
-ghost use Rattle.xml_tokens.specs.readers.Results.{Gives};
-ghost use Rattle.xml_tokens.specs.Values.{written};
+ghost use Rattle.xml_grammar.specs.readers.RuleReaders.{read_second};
+ghost use Rattle.xml_tokens.specs.readers.ReadResults.{IsSameResult};
+ghost use Rattle.xml_tokens.specs.Values.{qname_text};
 ghost use Rattle.xml_tokens.specs.readers.Tokens.{colon_follows, read_name, read_qname};
 ghost use Rattle.xml_tokens.specs.readers.Tokens.{read_end_tag};
-ghost use Rattle.xml_tokens.specs.readers.TokenViews.{name_in};
-ghost use Rattle.xml_tokens.specs.readers.Words.{colon, end_start};
+ghost use Rattle.xml_tokens.specs.readers.TokenViews.{raw_name_view};
+ghost use Rattle.xml_tokens.specs.readers.Literals.{colon, end_tag_start};
 
 use crate::parse_error::ParseError;
-use crate::tokens::{after_bytes, letter, name, same, sign, spaces};
+use crate::tokens::{ascii_letter, exact_text, letter, name, spaces, strip_bytes};
 use std::alloc::{AllocError, Global};
-use xml_grammar::{count, is_next, is_over, nothing, split_first, strip_char};
+use xml_grammar::{count, empty_str, is_at_end, is_next, split_first, strip_char};
 use xml_names::{LocalName, Name, Prefix};
 
 /// A name in a text: its prefix, empty if it has none, and its local part.
@@ -35,17 +35,17 @@ fn colon_follows(text: &str) -> bool
 /// # Errors
 /// The stop of the rule, with the rest of the text there.
 pub fn qname(text: &str) -> Result<(RawName<'_>, &str), ParseError<'_>>
-    ensures reads_rule { Gives (λ x. (name_in x.0, chars x.1.now)) result
+    ensures reads_rule { IsSameResult (λ x. (raw_name_view x.0, chars x.1.now)) result
         (read_qname (chars text.now)) }
 {
-    front_qname(text)
+    common_qname(text)
 }
 
 /// The local part of a name after its prefix, and what follows it.
 #[inline(never)]
-fn after_prefix(text: &str) -> Result<(&str, &str), ParseError<'_>>
-    ensures reads_rule { Gives (λ x. (chars x.0.now, chars x.1.now)) result
-        (read_after (read_word colon) read_name (chars text.now)) }
+fn local_part(text: &str) -> Result<(&str, &str), ParseError<'_>>
+    ensures reads_rule { IsSameResult (λ x. (chars x.0.now, chars x.1.now)) result
+        (read_second (read_word colon) read_name (chars text.now)) }
 {
     let rest = letter(text, ':')?;
     name(rest)
@@ -56,15 +56,15 @@ fn after_prefix(text: &str) -> Result<(&str, &str), ParseError<'_>>
 /// # Errors
 /// The stop of the rule, with the rest of the text there.
 #[inline(always)]
-pub fn front_qname(text: &str) -> Result<(RawName<'_>, &str), ParseError<'_>>
-    ensures reads_rule { Gives (λ x. (name_in x.0, chars x.1.now)) result
+pub fn common_qname(text: &str) -> Result<(RawName<'_>, &str), ParseError<'_>>
+    ensures reads_rule { IsSameResult (λ x. (raw_name_view x.0, chars x.1.now)) result
         (read_qname (chars text.now)) }
     ensures unprefixed_in_front { IfOk result
         (λ x. chars x.0.prefix.now ≡ [] → x.0.local.now ≡ take (length x.0.local.now) text.now) }
 {
     let (first, rest) = name(text)?;
     if !colon_follows(rest) {
-        let prefix = nothing();
+        let prefix = empty_str();
         return Ok((
             RawName {
                 prefix,
@@ -73,7 +73,7 @@ pub fn front_qname(text: &str) -> Result<(RawName<'_>, &str), ParseError<'_>>
             rest,
         ));
     }
-    let (local, rest) = after_prefix(rest)?;
+    let (local, rest) = local_part(rest)?;
     Ok((
         RawName {
             prefix: first,
@@ -86,36 +86,36 @@ pub fn front_qname(text: &str) -> Result<(RawName<'_>, &str), ParseError<'_>>
 /// What follows a name written like this one, which has a prefix.
 #[inline(never)]
 #[tactic(auto, using(crate::proofs::NameLemmas::word_then, crate::proofs::NameLemmas::prefixed))]
-fn same_prefixed_name<'a>(text: &'a str, name: &RawName<'_>) -> Result<&'a str, ParseError<'a>>
+fn match_prefixed_name<'a>(text: &'a str, name: &RawName<'_>) -> Result<&'a str, ParseError<'a>>
     requires { 0 < length (chars name.now.prefix.now) }
-    ensures reads_rule { Gives (λ rest. (tt, chars rest.now)) result
-        (read_word (written (name_in name.now)) (chars text.now)) }
+    ensures reads_rule { IsSameResult (λ rest. (tt, chars rest.now)) result
+        (read_word (qname_text (raw_name_view name.now)) (chars text.now)) }
 {
-    let rest = same(text, name.prefix)?;
+    let rest = exact_text(text, name.prefix)?;
     let rest = letter(rest, ':')?;
-    same(rest, name.local)
+    exact_text(rest, name.local)
 }
 
 /// What follows a name written like this one. Most have no prefix.
 #[inline(always)]
-fn same_name<'a>(text: &'a str, name: &RawName<'_>) -> Result<&'a str, ParseError<'a>>
-    ensures reads_rule { Gives (λ rest. (tt, chars rest.now)) result
-        (read_word (written (name_in name.now)) (chars text.now)) }
+fn match_name<'a>(text: &'a str, name: &RawName<'_>) -> Result<&'a str, ParseError<'a>>
+    ensures reads_rule { IsSameResult (λ rest. (tt, chars rest.now)) result
+        (read_word (qname_text (raw_name_view name.now)) (chars text.now)) }
 {
     match split_first(name.prefix) {
-        Some(_) => same_prefixed_name(text, name),
-        None => same(text, name.local),
+        Some(_) => match_prefixed_name(text, name),
+        None => exact_text(text, name.local),
     }
 }
 
 /// What follows the beginning of an end tag.
 #[inline(always)]
-fn end_start(text: &str) -> Result<&str, ParseError<'_>>
-    ensures reads_rule { Gives (λ rest. (tt, chars rest.now)) result
-        (read_word end_start (chars text.now)) }
+fn end_tag_start(text: &str) -> Result<&str, ParseError<'_>>
+    ensures reads_rule { IsSameResult (λ rest. (tt, chars rest.now)) result
+        (read_word end_tag_start (chars text.now)) }
 {
     match strip_char(text, '<') {
-        Some(rest) => sign(rest, '/'),
+        Some(rest) => ascii_letter(rest, '/'),
         None => Err(ParseError::Syntax(text)),
     }
 }
@@ -123,41 +123,41 @@ fn end_start(text: &str) -> Result<&str, ParseError<'_>>
 /// What follows the end tag of an element of this name without a prefix, if it contains no white
 /// space.
 #[inline(always)]
-fn after_plain_end<'a>(text: &'a str, local: &str) -> Option<&'a str>
+fn strip_plain_end_tag<'a>(text: &'a str, local: &str) -> Option<&'a str>
     ensures end_tag_rest { IfSome result
         (λ rest. chars text.now ≡ 60 ∷ 47 ∷ (chars local.now ++ 62 ∷ chars rest.now)) }
 {
     let rest = strip_char(text, '<')?;
     let rest = strip_char(rest, '/')?;
-    let rest = after_bytes(rest, local)?;
+    let rest = strip_bytes(rest, local)?;
     strip_char(rest, '>')
 }
 
 /// What follows the end tag of an element of a name of these parts.
 #[inline(never)]
 fn any_end_tag<'a>(text: &'a str, prefix: &str, local: &str) -> Result<&'a str, ParseError<'a>>
-    ensures reads_rule { Gives (λ rest. (tt, chars rest.now)) result
+    ensures reads_rule { IsSameResult (λ rest. (tt, chars rest.now)) result
         (read_end_tag (record { prefix = chars prefix.now; local = chars local.now })
         (chars text.now)) }
 {
     let name = RawName { prefix, local };
-    let rest = end_start(text)?;
-    let rest = same_name(rest, &name)?;
+    let rest = end_tag_start(text)?;
+    let rest = match_name(rest, &name)?;
     let (_, rest) = spaces(rest);
-    sign(rest, '>')
+    ascii_letter(rest, '>')
 }
 
 /// What follows the end tag of an element of a name without a prefix. Most contain no white
 /// space.
 #[inline(always)]
 fn local_end_tag<'a>(text: &'a str, local: &str) -> Result<&'a str, ParseError<'a>>
-    ensures reads_rule { Gives (λ rest. (tt, chars rest.now)) result
+    ensures reads_rule { IsSameResult (λ rest. (tt, chars rest.now)) result
         (read_end_tag (record { prefix = []; local = chars local.now }) (chars text.now)) }
 {
-    if let Some(rest) = after_plain_end(text, local) {
+    if let Some(rest) = strip_plain_end_tag(text, local) {
         return Ok(rest);
     }
-    let rest = any_end_tag(text, nothing(), local)?;
+    let rest = any_end_tag(text, empty_str(), local)?;
     Ok(rest)
 }
 
@@ -167,10 +167,10 @@ fn local_end_tag<'a>(text: &'a str, local: &str) -> Result<&'a str, ParseError<'
 /// The stop of the rule, with the rest of the text there.
 #[inline(always)]
 pub fn end_tag<'a>(text: &'a str, name: &RawName<'_>) -> Result<&'a str, ParseError<'a>>
-    ensures reads_rule { Gives (λ rest. (tt, chars rest.now)) result
-        (read_end_tag (name_in name.now) (chars text.now)) }
+    ensures reads_rule { IsSameResult (λ rest. (tt, chars rest.now)) result
+        (read_end_tag (raw_name_view name.now) (chars text.now)) }
 {
-    if is_over(name.prefix) {
+    if is_at_end(name.prefix) {
         return local_end_tag(text, name.local);
     }
     let rest = any_end_tag(text, name.prefix, name.local)?;
@@ -191,8 +191,8 @@ fn prefix_of(alloc: Global, name: &RawName<'_>) -> Result<Prefix, AllocError>
 ///
 /// # Errors
 /// `NoMemory` when out of memory.
-pub fn owned_name(alloc: Global, name: &RawName<'_>) -> Result<Name, AllocError>
-    ensures ok { IfOk result (λ owned_name. owned_name ≡ name_in name.now) }
+pub fn to_owned_name(alloc: Global, name: &RawName<'_>) -> Result<Name, AllocError>
+    ensures ok { IfOk result (λ to_owned_name. to_owned_name ≡ raw_name_view name.now) }
 {
     let prefix = prefix_of(alloc, name)?;
     let local = LocalName::from(alloc, name.local)?;
@@ -201,7 +201,7 @@ pub fn owned_name(alloc: Global, name: &RawName<'_>) -> Result<Name, AllocError>
 
 /// The owned name without a prefix that a text begins with.
 #[inline(always)]
-fn own_local<'a>(
+fn to_owned_local<'a>(
     alloc: Global,
     text: &str,
     local: &'a str,
@@ -209,12 +209,12 @@ fn own_local<'a>(
     requires is_front { local.now ≡ take (length local.now) text.now }
     ensures unprefixed_name { IfOk result
         (λ x. x.0 ≡ record { prefix = []; local = chars local.now }) }
-    ensures name_as_written { IfOk result (λ x. x.0 ≡ name_in x.1) }
+    ensures name_as_written { IfOk result (λ x. x.0 ≡ raw_name_view x.1) }
 {
     let prefix = Prefix::empty();
     let own = LocalName::from_front(alloc, local, text.as_bytes())?;
     let written = RawName {
-        prefix: nothing(),
+        prefix: empty_str(),
         local,
     };
     Ok((Name { prefix, local: own }, written))
@@ -226,26 +226,31 @@ fn own_local<'a>(
 /// # Errors
 /// The stop of the rule, with the rest of the text there; `Memory` when out of memory.
 #[inline(always)]
-pub fn own_qname(alloc: Global, text: &str) -> Result<(Name, RawName<'_>, &str), ParseError<'_>>
-    ensures reads_rule { Gives (λ x. (x.0, chars x.2.now)) result (read_qname (chars text.now)) }
-    ensures name_as_written { IfOk result (λ x. x.0 ≡ name_in x.1) }
+pub fn owned_qname(alloc: Global, text: &str) -> Result<(Name, RawName<'_>, &str), ParseError<'_>>
+    ensures reads_rule { IsSameResult (λ x. (x.0, chars x.2.now)) result
+        (read_qname (chars text.now)) }
+    ensures name_as_written { IfOk result (λ x. x.0 ≡ raw_name_view x.1) }
 {
     let (first, rest) = name(text)?;
     if !colon_follows(rest) {
-        let (name, written) = own_local(alloc, text, first)?;
+        let (name, written) = to_owned_local(alloc, text, first)?;
         return Ok((name, written, rest));
     }
-    own_prefixed_name(alloc, text)
+    owned_prefixed_name(alloc, text)
 }
 
-/// `own_qname` for any name.
+/// `owned_qname` for any name.
 #[inline(never)]
-fn own_prefixed_name(alloc: Global, text: &str) -> Result<(Name, RawName<'_>, &str), ParseError<'_>>
-    ensures reads_rule { Gives (λ x. (x.0, chars x.2.now)) result (read_qname (chars text.now)) }
-    ensures name_as_written { IfOk result (λ x. x.0 ≡ name_in x.1) }
+fn owned_prefixed_name(
+    alloc: Global,
+    text: &str,
+) -> Result<(Name, RawName<'_>, &str), ParseError<'_>>
+    ensures reads_rule { IsSameResult (λ x. (x.0, chars x.2.now)) result
+        (read_qname (chars text.now)) }
+    ensures name_as_written { IfOk result (λ x. x.0 ≡ raw_name_view x.1) }
 {
     let (written, rest) = qname(text)?;
-    let name = owned_name(alloc, &written)?;
+    let name = to_owned_name(alloc, &written)?;
     Ok((name, written, rest))
 }
 
@@ -253,7 +258,7 @@ fn own_prefixed_name(alloc: Global, text: &str) -> Result<(Name, RawName<'_>, &s
 #[inline(always)]
 pub fn tag_front_len(name: &RawName<'_>) -> usize
     requires { 2 + length (chars name.now.prefix.now) + length (chars name.now.local.now) < 2 ^ 64 }
-    ensures exact { result ≡ suc (length (written (name_in name.now))) }
+    ensures exact { result ≡ suc (length (qname_text (raw_name_view name.now))) }
     ensures is_no_more { result ≤ 2 + length (chars name.now.prefix.now) + length
         (chars name.now.local.now) }
 {

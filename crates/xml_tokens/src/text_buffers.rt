@@ -3,7 +3,7 @@ ghost use Rattle.std.specs.Prelude.{◌≡◌, ◌≤◌, ◌++◌, [], take, ch
 ghost use Rattle.std.specs.Prelude.{OnOk};
 ghost use Rattle.std.specs.List.{list_all};
 ghost use Rattle.std.specs.Str.{IsAscii};
-ghost use Rattle.xml_tokens.specs.readers.Runs.{is_ascii, Spells};
+ghost use Rattle.xml_tokens.specs.readers.CharacterRuns.{is_ascii, HasChars};
 
 use std::alloc::{AllocError, Global};
 use xml_names::{SmallText, Text};
@@ -12,7 +12,7 @@ use xml_names::{SmallText, Text};
 const CHUNK: usize = 64;
 
 /// The empty text. Does not allocate.
-pub fn no_text(alloc: Global) -> Text
+pub fn empty_text(alloc: Global) -> Text
     ensures holds_no_characters { result ≡ [] }
 {
     Text::own(String::new(alloc))
@@ -25,9 +25,9 @@ fn is_ascii(c: char) -> bool
 }
 
 // The text of the first `len` bytes, which are ASCII.
-fn ascii(bytes: &[u8; 64], len: usize) -> &str
+fn ascii_str(bytes: &[u8; 64], len: usize) -> &str
     requires at_most_64 { len ≤ 64 }
-    requires ascii { IsAscii (take len bytes.now) }
+    requires ascii_str { IsAscii (take len bytes.now) }
     ensures front_bytes { chars result.now ≡ take len bytes.now }
 {
     // These bytes are proved to be ASCII.
@@ -50,8 +50,8 @@ fn write_ascii(run: &[char], bytes: &mut [u8; 64]) -> bool
 }
 
 // A run as a text, if it is short and ASCII.
-fn plain<'a>(run: &[char], bytes: &'a mut [u8; 64]) -> Option<&'a str>
-    ensures spells_run { IfSome result (λ text. Spells run.now text.now) }
+fn plain_ascii<'a>(run: &[char], bytes: &'a mut [u8; 64]) -> Option<&'a str>
+    ensures spells_run { IfSome result (λ text. HasChars run.now text.now) }
 {
     if run.len() > CHUNK {
         return None;
@@ -59,11 +59,11 @@ fn plain<'a>(run: &[char], bytes: &'a mut [u8; 64]) -> Option<&'a str>
     if !write_ascii(run, bytes) {
         return None;
     }
-    Some(ascii(bytes, run.len()))
+    Some(ascii_str(bytes, run.len()))
 }
 
 // Appends characters one by one.
-fn push_each(text: &mut Text, chars: &[char]) -> Result<(), AllocError>
+fn push_each_char(text: &mut Text, chars: &[char]) -> Result<(), AllocError>
     ensures appended { OnOk result (text.new ≡ text.old ++ chars.now) }
 {
     for &c in chars {
@@ -77,14 +77,14 @@ fn push_chunk(text: &mut Text, chars: &[char]) -> Result<(), AllocError>
     ensures appended { OnOk result (text.new ≡ text.old ++ chars.now) }
 {
     let mut bytes = [0; 64];
-    match plain(chars, &mut bytes) {
-        Some(plain) => text.push_str(plain),
-        None => push_each(text, chars),
+    match plain_ascii(chars, &mut bytes) {
+        Some(plain_ascii) => text.push_str(plain_ascii),
+        None => push_each_char(text, chars),
     }
 }
 
 // Appends characters to a text.
-fn push_all(text: &mut Text, chars: &[char]) -> Result<(), AllocError>
+fn push_chunks(text: &mut Text, chars: &[char]) -> Result<(), AllocError>
     ensures appended { OnOk result (text.new ≡ text.old ++ chars.now) }
 {
     let mut rest = chars;
@@ -104,8 +104,8 @@ pub fn text_of(alloc: Global, chars: &[char]) -> Result<Text, AllocError>
     ensures ok { IfOk result (λ text. text ≡ chars.now) }
 {
     let mut bytes = [0; 64];
-    match plain(chars, &mut bytes) {
-        Some(plain) => Text::from(alloc, plain),
+    match plain_ascii(chars, &mut bytes) {
+        Some(plain_ascii) => Text::from(alloc, plain_ascii),
         None => text_in_chunks(alloc, chars),
     }
 }
@@ -115,7 +115,7 @@ fn text_in_chunks(alloc: Global, chars: &[char]) -> Result<Text, AllocError>
     ensures ok { IfOk result (λ text. text ≡ chars.now) }
 {
     let mut text = Text::with_capacity(alloc, chars.len())?;
-    push_all(&mut text, chars)?;
+    push_chunks(&mut text, chars)?;
     Ok(text)
 }
 
@@ -128,8 +128,8 @@ pub fn name_part<const N: usize>(alloc: Global, chars: &[char]) -> Result<SmallT
     ensures ok { IfOk result (λ part. part ≡ chars.now) }
 {
     let mut bytes = [0; 64];
-    match plain(chars, &mut bytes) {
-        Some(plain) => SmallText::from(alloc, plain),
+    match plain_ascii(chars, &mut bytes) {
+        Some(plain_ascii) => SmallText::from(alloc, plain_ascii),
         None => chunk_text(alloc, chars),
     }
 }

@@ -2,16 +2,16 @@
 ghost use Rattle.std.specs.Prelude.{◌≡◌, ◌<◌, true, [], ◌∷◌, ◌++◌, chars, drop, take, length};
 ghost use Rattle.std.specs.Prelude.{IsTrue, IfOk, IfSome, Ok};
 ghost use Rattle.std.specs.List.{list_all};
-ghost use Rattle.xml_grammar.specs.TextReading.{head_is, front_of, after_front, read_word};
+ghost use Rattle.xml_grammar.specs.TextReading.{first_char_is, take_while, drop_while, read_word};
 ghost use Rattle.xml_names.specs.Characters.{is_space, is_name_start, is_name_char};
-ghost use Rattle.xml_tokens.specs.readers.Results.{Gives};
-ghost use Rattle.xml_tokens.specs.readers.Tokens.{read_name, read_spaces, read_some_spaces};
+ghost use Rattle.xml_tokens.specs.readers.ReadResults.{IsSameResult};
+ghost use Rattle.xml_tokens.specs.readers.Tokens.{read_name, read_spaces, read_required_spaces};
 ghost use Rattle.xml_tokens.specs.readers.Tokens.{read_equals};
 
 use crate::character_classes::{Class, run};
 use crate::parse_error::ParseError;
 use crate::plain_characters::is_plain_in_name;
-use xml_grammar::{is_small_next, nothing, split_first, strip_char};
+use xml_grammar::{empty_str, is_lowercase_next, split_first, strip_char};
 use xml_names::{is_name_char, is_name_start, is_space};
 
 /// What follows a fixed letter.
@@ -20,7 +20,7 @@ use xml_names::{is_name_char, is_name_start, is_space};
 /// The stop of the rule, with the rest of the text there.
 #[inline(always)]
 pub fn letter(text: &str, expected: char) -> Result<&str, ParseError<'_>>
-    ensures reads_rule { Gives (λ rest. (tt, chars rest.now)) result
+    ensures reads_rule { IsSameResult (λ rest. (tt, chars rest.now)) result
         (read_word (expected ∷ []) (chars text.now)) }
 {
     match split_first(text) {
@@ -39,9 +39,9 @@ pub fn letter(text: &str, expected: char) -> Result<&str, ParseError<'_>>
 /// # Errors
 /// The stop of the rule, with the rest of the text there.
 #[inline(always)]
-pub fn sign(text: &str, expected: char) -> Result<&str, ParseError<'_>>
+pub fn ascii_letter(text: &str, expected: char) -> Result<&str, ParseError<'_>>
     requires { expected < 128 }
-    ensures reads_rule { Gives (λ rest. (tt, chars rest.now)) result
+    ensures reads_rule { IsSameResult (λ rest. (tt, chars rest.now)) result
         (read_word (expected ∷ []) (chars text.now)) }
 {
     match strip_char(text, expected) {
@@ -56,18 +56,18 @@ pub fn sign(text: &str, expected: char) -> Result<&str, ParseError<'_>>
 /// The stop of the rule, with the rest of the text there.
 #[inline(always)]
 pub fn word<'a>(text: &'a str, word: &[char]) -> Result<&'a str, ParseError<'a>>
-    ensures reads_rule { Gives (λ rest. (tt, chars rest.now)) result
+    ensures reads_rule { IsSameResult (λ rest. (tt, chars rest.now)) result
         (read_word word.now (chars text.now)) }
 {
     match word {
         [first] => letter(text, *first),
-        _ => letters(text, word),
+        _ => word_letters(text, word),
     }
 }
 
 /// What follows a fixed word of several letters.
-fn letters<'a>(text: &'a str, word: &[char]) -> Result<&'a str, ParseError<'a>>
-    ensures reads_rule { Gives (λ rest. (tt, chars rest.now)) result
+fn word_letters<'a>(text: &'a str, word: &[char]) -> Result<&'a str, ParseError<'a>>
+    ensures reads_rule { IsSameResult (λ rest. (tt, chars rest.now)) result
         (read_word word.now (chars text.now)) }
 {
     let mut rest = text;
@@ -96,7 +96,7 @@ fn begins_with(text: &str, front: &str) -> bool
 
 /// What follows these bytes, if the text begins with them.
 #[inline(always)]
-pub fn after_bytes<'a>(text: &'a str, front: &str) -> Option<&'a str>
+pub fn strip_bytes<'a>(text: &'a str, front: &str) -> Option<&'a str>
     ensures front_and_rest { IfSome result
         (λ rest. chars text.now ≡ chars front.now ++ chars rest.now) }
 {
@@ -108,20 +108,20 @@ pub fn after_bytes<'a>(text: &'a str, front: &str) -> Option<&'a str>
 
 /// What follows the characters of a text. Most are there.
 #[inline(always)]
-pub fn same<'a>(text: &'a str, front: &str) -> Result<&'a str, ParseError<'a>>
-    ensures reads_rule { Gives (λ rest. (tt, chars rest.now)) result
+pub fn exact_text<'a>(text: &'a str, front: &str) -> Result<&'a str, ParseError<'a>>
+    ensures reads_rule { IsSameResult (λ rest. (tt, chars rest.now)) result
         (read_word (chars front.now) (chars text.now)) }
 {
-    match after_bytes(text, front) {
+    match strip_bytes(text, front) {
         Some(rest) => Ok(rest),
-        None => same_by_each(text, front),
+        None => exact_text_by_character(text, front),
     }
 }
 
-/// `same`, character by character.
+/// `exact_text`, character by character.
 #[inline(never)]
-fn same_by_each<'a>(text: &'a str, front: &str) -> Result<&'a str, ParseError<'a>>
-    ensures reads_rule { Gives (λ rest. (tt, chars rest.now)) result
+fn exact_text_by_character<'a>(text: &'a str, front: &str) -> Result<&'a str, ParseError<'a>>
+    ensures reads_rule { IsSameResult (λ rest. (tt, chars rest.now)) result
         (read_word (chars front.now) (chars text.now)) }
 {
     let mut rest = text;
@@ -144,16 +144,16 @@ fn same_by_each<'a>(text: &'a str, front: &str) -> Result<&'a str, ParseError<'a
 /// White space at the front, and what follows it.
 #[inline(never)]
 fn space_run(text: &str) -> (&str, &str)
-    ensures front_of_run { chars result.0.now ≡ front_of is_space (chars text.now) }
-    ensures rest_after_run { chars result.1.now ≡ after_front is_space (chars text.now) }
+    ensures front_of_run { chars result.0.now ≡ take_while is_space (chars text.now) }
+    ensures rest_after_run { chars result.1.now ≡ drop_while is_space (chars text.now) }
 {
     run(text, Class::Space)
 }
 
 /// Whether white space is the first of these bytes.
 #[inline(always)]
-fn begin_with_space(bytes: &[u8]) -> bool
-    ensures exact { result ≡ head_is is_space bytes.now }
+fn starts_with_space(bytes: &[u8]) -> bool
+    ensures exact { result ≡ first_char_is is_space bytes.now }
 {
     match bytes {
         [first, ..] => is_space(*first as char),
@@ -164,9 +164,9 @@ fn begin_with_space(bytes: &[u8]) -> bool
 /// Whether white space comes next.
 #[inline(always)]
 pub fn is_space_next(text: &str) -> bool
-    ensures exact { result ≡ head_is is_space (chars text.now) }
+    ensures exact { result ≡ first_char_is is_space (chars text.now) }
 {
-    begin_with_space(text.as_bytes())
+    starts_with_space(text.as_bytes())
 }
 
 /// Optional white space, and what follows it. Most often there is none.
@@ -174,17 +174,17 @@ pub fn is_space_next(text: &str) -> bool
 pub fn spaces(text: &str) -> (&str, &str)
     ensures reads_rule { read_spaces (chars text.now)
         ≡ Ok (chars result.0.now, chars result.1.now) }
-    ensures rest_after_run { chars result.1.now ≡ after_front is_space (chars text.now) }
+    ensures rest_after_run { chars result.1.now ≡ drop_while is_space (chars text.now) }
 {
     if !is_space_next(text) {
-        return (nothing(), text);
+        return (empty_str(), text);
     }
     space_run(text)
 }
 
 /// Whether a character may occur in a name. Most are ASCII.
 #[inline(always)]
-pub fn stands_in_name(c: char) -> bool
+pub fn is_char_of_name(c: char) -> bool
     ensures exact { result ≡ is_name_char c }
 {
     if c <= '\u{7F}' {
@@ -199,7 +199,7 @@ pub fn stands_in_name(c: char) -> bool
 /// The stop of the rule, with the rest of the text there.
 #[inline(always)]
 pub fn name(text: &str) -> Result<(&str, &str), ParseError<'_>>
-    ensures reads_rule { Gives (λ x. (chars x.0.now, chars x.1.now)) result
+    ensures reads_rule { IsSameResult (λ x. (chars x.0.now, chars x.1.now)) result
         (read_name (chars text.now)) }
     ensures nonempty_name { IfOk result (λ x. 0 < length (chars x.0.now)) }
     ensures front_of_text { IfOk result (λ x. x.0.now ≡ take (length x.0.now) text.now) }
@@ -215,9 +215,9 @@ pub fn name(text: &str) -> Result<(&str, &str), ParseError<'_>>
 /// # Errors
 /// The stop of the rule, with the rest of the text there.
 #[inline(always)]
-pub fn some_spaces(text: &str) -> Result<(&str, &str), ParseError<'_>>
-    ensures reads_rule { Gives (λ x. (chars x.0.now, chars x.1.now)) result
-        (read_some_spaces (chars text.now)) }
+pub fn required_spaces(text: &str) -> Result<(&str, &str), ParseError<'_>>
+    ensures reads_rule { IsSameResult (λ x. (chars x.0.now, chars x.1.now)) result
+        (read_required_spaces (chars text.now)) }
     ensures all_space { IfOk result (λ x. list_all is_space (chars x.0.now) ≡ true) }
 {
     if !is_space_next(text) {
@@ -230,18 +230,18 @@ pub fn some_spaces(text: &str) -> Result<(&str, &str), ParseError<'_>>
 /// letter.
 #[inline(always)]
 pub fn starts_with_name(text: &str) -> bool
-    ensures exact { result ≡ head_is is_name_start (chars text.now) }
+    ensures exact { result ≡ first_char_is is_name_start (chars text.now) }
 {
-    if is_small_next(text) {
+    if is_lowercase_next(text) {
         return true;
     }
-    starts_with_some_name(text)
+    starts_with_any_name(text)
 }
 
 /// `starts_with_name` for any character.
 #[inline(never)]
-fn starts_with_some_name(text: &str) -> bool
-    ensures exact { result ≡ head_is is_name_start (chars text.now) }
+fn starts_with_any_name(text: &str) -> bool
+    ensures exact { result ≡ first_char_is is_name_start (chars text.now) }
 {
     match split_first(text) {
         Some((first, _)) => is_name_start(first),
@@ -255,10 +255,10 @@ fn starts_with_some_name(text: &str) -> bool
 /// The stop of the rule, with the rest of the text there.
 #[inline(always)]
 pub fn equals(text: &str) -> Result<(&str, &str), ParseError<'_>>
-    ensures reads_rule { Gives (λ x. (chars x.0.now, chars x.1.now)) result
+    ensures reads_rule { IsSameResult (λ x. (chars x.0.now, chars x.1.now)) result
         (read_equals (chars text.now)) }
 {
     let (_, rest) = spaces(text);
-    let rest = sign(rest, '=')?;
+    let rest = ascii_letter(rest, '=')?;
     Ok(spaces(rest))
 }

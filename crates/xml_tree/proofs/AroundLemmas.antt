@@ -2,12 +2,12 @@
 use Rattle.std.proofs.Common.{◌≡◌, ℕ, List, [], ◌∷◌, ◌++◌, sym, ap, ◌∙◌, append-nil, append_assoc}
 use Rattle.std.specs.Option.{option_or}
 use Rattle.xml_names.specs.declared.names.Decl.{Decl}
-use Rattle.xml_names.specs.Scopes.{declared_uri, joined}
+use Rattle.xml_names.specs.Scopes.{declared_uri, scope_decls}
 use Rattle.xml_names.proofs.ScopeLemmas.{declared-append}
 
-joined_inside : (c : List (List Decl)) (ds : List Decl) → joined (c ++ ds ∷ []) ≡ joined c ++ ds
+joined_inside : (c : List (List Decl)) (ds : List Decl) → scope_decls (c ++ ds ∷ []) ≡ scope_decls c ++ ds
 joined_inside [] ds = append-nil ds
-joined_inside (xs ∷ c) ds = ap (λ (l : List Decl). xs ++ l) (joined_inside c ds) ∙ sym (append_assoc xs (joined c) ds)
+joined_inside (xs ∷ c) ds = ap (λ (l : List Decl). xs ++ l) (joined_inside c ds) ∙ sym (append_assoc xs (scope_decls c) ds)
 
-pub declared_inside : (c : List (List Decl)) (ds : List Decl) (p : List ℕ) → declared_uri (joined (c ++ ds ∷ [])) p ≡ option_or (declared_uri ds p) (declared_uri (joined c) p)
-declared_inside c ds p = ap (λ (l : List Decl). declared_uri l p) (joined_inside c ds) ∙ declared-append (joined c) ds p
+pub declared_inside : (c : List (List Decl)) (ds : List Decl) (p : List ℕ) → declared_uri (scope_decls (c ++ ds ∷ [])) p ≡ option_or (declared_uri ds p) (declared_uri (scope_decls c) p)
+declared_inside c ds p = ap (λ (l : List Decl). declared_uri l p) (joined_inside c ds) ∙ declared-append (scope_decls c) ds p

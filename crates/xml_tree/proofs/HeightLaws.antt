@@ -2,7 +2,7 @@
 use Rattle.std.proofs.Common.{◌≡◌, ℕ, zero, suc, ◌+◌, ◌≤◌, max, List, [], ◌∷◌, length, Option, Some, None, option_and_then, refl, sym, ap, ◌∙◌, arith}
 use Rattle.std.specs.List.{slice_get}
 use Rattle.xml_tree.specs.Tree.{Content, last, more, comment_node, Tree, tree_of, child_elements, child_elements_of, at, height, content_height}
-use Rattle.xml_tree.specs.Edits.{put, cut, change, change_at, put_in, put_kid, put_over, take_in, cut_child}
+use Rattle.xml_tree.specs.Edits.{put, cut, change_element, change_at, put_in, put_kid, put_over, take_in, cut_child}
 use Rattle.xml_tree.specs.inner.Heights.{content_height-before}
 use Rattle.xml_tree.proofs.PlaceLaws.{height-at}
 
@@ -23,7 +23,7 @@ content_height-cut zero (comment_node t c rest) = content_height-cut zero rest
 content_height-cut (suc i) (comment_node t c rest) = content_height-cut (suc i) rest
 
 -- an element grows to this many levels
-grown : (n m : ℕ) (g : Tree → Tree) (c : Content) (k : Tree) → slice_get (child_elements c) n ≡ Some k → height (g k) ≡ max (height k) m → content_height (change n g c) ≡ max (content_height c) m
+grown : (n m : ℕ) (g : Tree → Tree) (c : Content) (k : Tree) → slice_get (child_elements c) n ≡ Some k → height (g k) ≡ max (height k) m → content_height (change_element n g c) ≡ max (content_height c) m
 grown n m g (last t) k is h = absurd (cc)
 grown zero m g (more t x ds ats c rest) k is h =
     let same : k ≡ tree_of x ds ats c = cc in
@@ -32,7 +32,7 @@ grown (suc n) m g (more t x ds ats c rest) k is h = omega (arith, grown n m g re
 grown n m g (comment_node t c rest) k is h = grown n m g rest k is h
 
 -- or has at most this many
-bounded : (n m : ℕ) (g : Tree → Tree) (c : Content) (k : Tree) → slice_get (child_elements c) n ≡ Some k → height (g k) ≤ max (height k) m → content_height (change n g c) ≤ max (content_height c) m
+bounded : (n m : ℕ) (g : Tree → Tree) (c : Content) (k : Tree) → slice_get (child_elements c) n ≡ Some k → height (g k) ≤ max (height k) m → content_height (change_element n g c) ≤ max (content_height c) m
 bounded n m g (last t) k is h = absurd (cc)
 bounded zero m g (more t x ds ats c rest) k is h =
     let same : k ≡ tree_of x ds ats c = cc in

@@ -2,14 +2,14 @@
 use Rattle.std.proofs.Common.{◌≡◌, ℕ, zero, suc, List, [], ◌∷◌, ◌++◌, Option, Some, None, IsSome, IsSomeAnd, option_and_then, refl, sym, ap, ◌∙◌, subst, ◌<◌, length, arith}
 use Rattle.std.specs.List.{slice_get}
 use Rattle.xml_tree.specs.Tree.{Content, last, more, comment_node, more_of, Tree, child_elements, child_elements_of, at}
-use Rattle.xml_tree.specs.Edits.{change, change_at, put_over, parent_path, own_number}
+use Rattle.xml_tree.specs.Edits.{change_element, change_at, put_over, parent_path, last_number}
 
 -- functions with equal results on the element change it alike
-change-agree : (n : ℕ) (f g : Tree → Tree) (c : Content) → ((k : Tree) → slice_get (child_elements c) n ≡ Some k → f k ≡ g k) → change n f c ≡ change n g c
-change-agree n f g (last t) h = refl
-change-agree zero f g (more t m ds ats c rest) h = ap (λ x. more_of t x rest) (h _ refl)
-change-agree (suc n) f g (more t m ds ats c rest) h = ap (more t m ds ats c) (change-agree n f g rest h)
-change-agree n f g (comment_node t c rest) h = ap (comment_node t c) (change-agree n f g rest h)
+change_element-agree : (n : ℕ) (f g : Tree → Tree) (c : Content) → ((k : Tree) → slice_get (child_elements c) n ≡ Some k → f k ≡ g k) → change_element n f c ≡ change_element n g c
+change_element-agree n f g (last t) h = refl
+change_element-agree zero f g (more t m ds ats c rest) h = ap (λ x. more_of t x rest) (h _ refl)
+change_element-agree (suc n) f g (more t m ds ats c rest) h = ap (more t m ds ats c) (change_element-agree n f g rest h)
+change_element-agree n f g (comment_node t c rest) h = ap (comment_node t c) (change_element-agree n f g rest h)
 
 at_step : (o : Option Tree) (p : List ℕ) (k e : Tree) → option_and_then (at p) o ≡ Some k → o ≡ Some e → at p e ≡ Some k
 at_step (Some x) p k e is there = ap (at p) (sym (cc)) ∙ is
@@ -20,21 +20,21 @@ pub put_over-made : (p : List ℕ) (f : Tree → Tree) (k t : Tree) → at p t �
 put_over-made [] f k t is = ap f (sym (cc))
 put_over-made (n ∷ p) f k t is =
     ap (λ (x : Content). record t { content = x })
-    (change-agree n (put_over p (f k)) (change_at p f) t.content (λ e there. put_over-made p f k e (at_step (slice_get (child_elements_of t) n) p k e is there)))
+    (change_element-agree n (put_over p (f k)) (change_at p f) t.content (λ e there. put_over-made p f k e (at_step (slice_get (child_elements_of t) n) p k e is there)))
 
 -- what an edit left there is f's result for the element
 pub made_at : (p : List ℕ) (f : Tree → Tree) (here left t new : Tree) → at p t ≡ Some here → left ≡ f here → new ≡ put_over p left t → new ≡ change_at p f t
 made_at p f here left t new there made put = put ∙ ap (λ w. put_over p w t) made ∙ put_over-made p f here t there
 
-change-nothing : (n : ℕ) (f : Tree → Tree) (c : Content) → ((k : Tree) → f k ≡ k) → change n f c ≡ c
-change-nothing n f (last t) h = refl
-change-nothing zero f (more t m ds ats c rest) h = ap (λ x. more_of t x rest) (h _)
-change-nothing (suc n) f (more t m ds ats c rest) h = ap (more t m ds ats c) (change-nothing n f rest h)
-change-nothing n f (comment_node t c rest) h = ap (comment_node t c) (change-nothing n f rest h)
+change_element-nothing : (n : ℕ) (f : Tree → Tree) (c : Content) → ((k : Tree) → f k ≡ k) → change_element n f c ≡ c
+change_element-nothing n f (last t) h = refl
+change_element-nothing zero f (more t m ds ats c rest) h = ap (λ x. more_of t x rest) (h _)
+change_element-nothing (suc n) f (more t m ds ats c rest) h = ap (more t m ds ats c) (change_element-nothing n f rest h)
+change_element-nothing n f (comment_node t c rest) h = ap (comment_node t c) (change_element-nothing n f rest h)
 
 change_at-nothing : (p : List ℕ) (t : Tree) → change_at p (λ e. e) t ≡ t
 change_at-nothing [] t = refl
-change_at-nothing (n ∷ p) t = ap (λ (x : Content). record t { content = x }) (change-nothing n (change_at p (λ e. e)) t.content (λ k. change_at-nothing p k))
+change_at-nothing (n ∷ p) t = ap (λ (x : Content). record t { content = x }) (change_element-nothing n (change_at p (λ e. e)) t.content (λ k. change_at-nothing p k))
 
 -- an edit that left the element as it was
 pub same_at : (p : List ℕ) (here left t new : Tree) → at p t ≡ Some here → left ≡ here → new ≡ put_over p left t → new ≡ t
@@ -47,7 +47,7 @@ front-snoc [] n = refl
 front-snoc (m ∷ []) n = refl
 front-snoc (m ∷ k ∷ p) n = ap (λ x. m ∷ x) (front-snoc (k ∷ p) n)
 
-pub final-snoc : (p : List ℕ) (n : ℕ) → own_number (p ++ n ∷ []) ≡ n
+pub final-snoc : (p : List ℕ) (n : ℕ) → last_number (p ++ n ∷ []) ≡ n
 final-snoc [] n = refl
 final-snoc (m ∷ []) n = refl
 final-snoc (m ∷ k ∷ p) n = final-snoc (k ∷ p) n

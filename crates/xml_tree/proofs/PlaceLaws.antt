@@ -3,11 +3,11 @@ use Rattle.std.proofs.Common.{◌≡◌, ◌≢◌, inl, inr, ℕ, zero, suc, �
 use Rattle.std.specs.List.{slice_get, filter_map}
 use Rattle.xml_tree.specs.Tree.{Content, last, more, comment_node, more_of, Tree, tree_of, child_elements, child_elements_of, at, height, content_height}
 use Rattle.xml_names.specs.Attributes.{change_item}
-use Rattle.xml_tree.specs.Edits.{put, cut, change, with_elem, with_text, with_comment, change_at, put_over}
+use Rattle.xml_tree.specs.Edits.{put, cut, change_element, with_elem, with_text, with_comment, change_at, put_over}
 use Rattle.xml_tree.specs.Nodes.{nodes_of, text_node, elem_of}
 use Rattle.xml_tree.specs.declared.tree.Node.{Node}
 use Rattle.xml_tree.specs.declared.tree.Node.TheVariants.{Elem, Comment}
-use Rattle.xml_tree.specs.DivergingPaths.{Apart}
+use Rattle.xml_tree.specs.DivergingPaths.{AreDiverging}
 use Rattle.xml_tree.proofs.Places.{child_elements-before}
 
 -- ---- child elements
@@ -26,11 +26,11 @@ child_elements-cut (suc i) (more t n ds ats c rest) = ap (λ l. tree_of n ds ats
 child_elements-cut zero (comment_node t c rest) = child_elements-cut zero rest
 child_elements-cut (suc i) (comment_node t c rest) = child_elements-cut (suc i) rest
 
-pub child_elements-change : (i : ℕ) (f : Tree → Tree) (c : Content) → child_elements (change i f c) ≡ change_item i f (child_elements c)
-child_elements-change i f (last t) = refl
-child_elements-change zero f (more t n ds ats c rest) = refl
-child_elements-change (suc i) f (more t n ds ats c rest) = ap (λ l. tree_of n ds ats c ∷ l) (child_elements-change i f rest)
-child_elements-change i f (comment_node t c rest) = child_elements-change i f rest
+pub child_elements-change_element : (i : ℕ) (f : Tree → Tree) (c : Content) → child_elements (change_element i f c) ≡ change_item i f (child_elements c)
+child_elements-change_element i f (last t) = refl
+child_elements-change_element zero f (more t n ds ats c rest) = refl
+child_elements-change_element (suc i) f (more t n ds ats c rest) = ap (λ l. tree_of n ds ats c ∷ l) (child_elements-change_element i f rest)
+child_elements-change_element i f (comment_node t c rest) = child_elements-change_element i f rest
 
 pub child_elements-with_elem : (e : Tree) (c : Content) → child_elements (with_elem e c) ≡ child_elements c ++ e ∷ []
 child_elements-with_elem e (last t) = refl
@@ -76,11 +76,11 @@ this_item zero f (x ∷ xs) = refl
 this_item (suc n) f (x ∷ xs) = this_item n f xs
 
 -- the changed child, and the others
-pub other_kid : (m n : ℕ) (f : Tree → Tree) (c : Content) → m ≢ n → slice_get (child_elements (change m f c)) n ≡ slice_get (child_elements c) n
-other_kid m n f c ne = ap (λ l. slice_get l n) (child_elements-change m f c) ∙ other_item m n f (child_elements c) ne
+pub other_kid : (m n : ℕ) (f : Tree → Tree) (c : Content) → m ≢ n → slice_get (child_elements (change_element m f c)) n ≡ slice_get (child_elements c) n
+other_kid m n f c ne = ap (λ l. slice_get l n) (child_elements-change_element m f c) ∙ other_item m n f (child_elements c) ne
 
-pub this_kid : (n : ℕ) (f : Tree → Tree) (c : Content) → slice_get (child_elements (change n f c)) n ≡ option_map f (slice_get (child_elements c) n)
-this_kid n f c = ap (λ l. slice_get l n) (child_elements-change n f c) ∙ this_item n f (child_elements c)
+pub this_kid : (n : ℕ) (f : Tree → Tree) (c : Content) → slice_get (child_elements (change_element n f c)) n ≡ option_map f (slice_get (child_elements c) n)
+this_kid n f c = ap (λ l. slice_get l n) (child_elements-change_element n f c) ∙ this_item n f (child_elements c)
 
 -- ---- longer paths
 
@@ -92,7 +92,7 @@ pub at-append : (p q : List ℕ) (t : Tree) → at (p ++ q) t ≡ option_and_the
 at-append [] q t = refl
 at-append (n ∷ p) q t = through (slice_get (child_elements_of t) n) p q (at-append p q)
 
-same_change : (n : ℕ) (f g : Tree → Tree) (c : Content) → ((k : Tree) → f k ≡ g k) → change n f c ≡ change n g c
+same_change : (n : ℕ) (f g : Tree → Tree) (c : Content) → ((k : Tree) → f k ≡ g k) → change_element n f c ≡ change_element n g c
 same_change n f g (last t) h = refl
 same_change zero f g (more t m ds ats c rest) h = ap (λ x. more_of t x rest) (h _)
 same_change (suc n) f g (more t m ds ats c rest) h = ap (more t m ds ats c) (same_change n f g rest h)
@@ -109,7 +109,7 @@ changed_below : (o : Option Tree) (p q : List ℕ) (f : Tree → Tree) → ((e :
 changed_below None p q f h = refl
 changed_below (Some e) p q f h = h e
 
-pub at-change_at : (p q : List ℕ) (f : Tree → Tree) (t : Tree) → Apart p q → at q (change_at p f t) ≡ at q t
+pub at-change_at : (p q : List ℕ) (f : Tree → Tree) (t : Tree) → AreDiverging p q → at q (change_at p f t) ≡ at q t
 at-change_at [] q f t a = absurd a
 at-change_at (m ∷ p) [] f t a = absurd a
 at-change_at (m ∷ p) (n ∷ q) f t (inl ne) = ap (option_and_then (at q)) (other_kid m n (change_at p f) t.content ne)

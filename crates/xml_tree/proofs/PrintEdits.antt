@@ -3,8 +3,8 @@ use Rattle.std.proofs.Common.{◌≡◌, ℕ, zero, suc, ◌+◌, ◌≤◌, Boo
 use Rattle.std.specs.List.{slice_get, find}
 use Rattle.std.specs.Cmp.Lexicographic.{bytes_decides}
 use Rattle.xml_tree.specs.Tree.{Content, last, more, comment_node, more_of, Tree, tree_of, child_elements, child_elements_of, at}
-use Rattle.xml_names.specs.Attributes.{with_new_value, with_attr, without_attr, is_written_so as is_named}
-use Rattle.xml_tree.specs.Edits.{with_text_before, change, change_at, change_child, cut, put}
+use Rattle.xml_names.specs.Attributes.{with_new_value, with_attr, without_attr, has_qname as is_named}
+use Rattle.xml_tree.specs.Edits.{with_text_prepended, change_element, change_at, change_child, cut, put}
 use Rattle.xml_names.specs.Markup.{byte_len, tag_front, print_attr, print_comment, print_name, print_text}
 use Rattle.xml_tree.specs.Print.{is_empty, print, print_content}
 use Rattle.xml_names.specs.declared.names.Name.{Name}
@@ -29,7 +29,7 @@ content-comment_node t x rest =
     let behind = byte_len-append (print_comment x) (print_content rest) in
     omega (arith, parts, behind)
 
-content-before : (t : List ℕ) (c : Content) → byte_len (print_content (with_text_before t c)) ≡ byte_len (print_text t) + byte_len (print_content c)
+content-before : (t : List ℕ) (c : Content) → byte_len (print_content (with_text_prepended t c)) ≡ byte_len (print_text t) + byte_len (print_content c)
 content-before t c = ap byte_len (print-before t c) ∙ byte_len-append (print_text t) (print_content c)
 
 -- ---- what follows the attributes, besides the nodes
@@ -54,22 +54,22 @@ print-parts e = by (is_empty e.content) refl
 -- ---- one child element
 
 -- the child is replaced by the result of f
-content-change : (n : ℕ) (f : Tree → Tree) (k : Tree) (c : Content) → slice_get (child_elements c) n ≡ Some k
-    → byte_len (print_content (change n f c)) + byte_len (print k) ≡ byte_len (print_content c) + byte_len (print (f k))
-content-change n f k (last t) is = absurd (cc)
-content-change zero f k (more t m ds ats c rest) is =
+content-change_element : (n : ℕ) (f : Tree → Tree) (k : Tree) (c : Content) → slice_get (child_elements c) n ≡ Some k
+    → byte_len (print_content (change_element n f c)) + byte_len (print k) ≡ byte_len (print_content c) + byte_len (print (f k))
+content-change_element n f k (last t) is = absurd (cc)
+content-change_element zero f k (more t m ds ats c rest) is =
     let same : tree_of m ds ats c ≡ k = cc in
     omega (arith, content-more t (f (tree_of m ds ats c)) rest, content-more t (tree_of m ds ats c) rest, ap (λ x. byte_len (print x)) same, ap (λ x. byte_len (print (f x))) same)
-content-change (suc n) f k (more t m ds ats c rest) is =
-    omega (arith, content-more t (tree_of m ds ats c) (change n f rest), content-more t (tree_of m ds ats c) rest, content-change n f k rest is)
-content-change n f k (comment_node t x rest) is = omega (arith, content-comment_node t x (change n f rest), content-comment_node t x rest, content-change n f k rest is)
+content-change_element (suc n) f k (more t m ds ats c rest) is =
+    omega (arith, content-more t (tree_of m ds ats c) (change_element n f rest), content-more t (tree_of m ds ats c) rest, content-change_element n f k rest is)
+content-change_element n f k (comment_node t x rest) is = omega (arith, content-comment_node t x (change_element n f rest), content-comment_node t x rest, content-change_element n f k rest is)
 
 -- there are nodes before and after it
-empty-change : (n : ℕ) (f : Tree → Tree) (c : Content) → is_empty (change n f c) ≡ is_empty c
-empty-change n f (last t) = refl
-empty-change zero f (more t m ds ats c rest) = refl
-empty-change (suc n) f (more t m ds ats c rest) = refl
-empty-change n f (comment_node t x rest) = refl
+empty-change_element : (n : ℕ) (f : Tree → Tree) (c : Content) → is_empty (change_element n f c) ≡ is_empty c
+empty-change_element n f (last t) = refl
+empty-change_element zero f (more t m ds ats c rest) = refl
+empty-change_element (suc n) f (more t m ds ats c rest) = refl
+empty-change_element n f (comment_node t x rest) = refl
 
 -- an element is inserted into a gap
 pub content-put : (j : ℕ) (k : Tree) (c : Content) → j ≤ length (child_elements c) → byte_len (print_content (put j k c)) ≡ byte_len (print_content c) + byte_len (print k)
@@ -105,7 +105,7 @@ full-there i k (comment_node t x rest) is = refl
 pub print-change_child : (n : ℕ) (f : Tree → Tree) (k t : Tree) → slice_get (child_elements_of t) n ≡ Some k
     → byte_len (print (change_child n f t)) + byte_len (print k) ≡ byte_len (print t) + byte_len (print (f k))
 print-change_child n f k t is =
-    omega (arith, print-parts (change_child n f t), print-parts t, content-change n f k t.content is, ap (ending_len t.name) (empty-change n f t.content))
+    omega (arith, print-parts (change_child n f t), print-parts t, content-change_element n f k t.content is, ap (ending_len t.name) (empty-change_element n f t.content))
 
 print-below : (o : Option Tree) (p : List ℕ) (f : Tree → Tree) (e : Tree) (l m : ℕ)
     → ((k : Tree) → o ≡ Some k → l + byte_len (print k) ≡ m + byte_len (print (change_at p f k)))

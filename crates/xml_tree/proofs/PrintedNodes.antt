@@ -2,8 +2,8 @@
 use Rattle.std.proofs.Common.{◌≡◌, ℕ, ◌+◌, ◌<◌, ◌≤◌, min, true, false, List, [], ◌∷◌, ◌++◌, length, drop, get_or, refl, sym, ap, ◌∙◌, append_assoc, arith}
 use Rattle.std.proofs.lemmas.Grind.{flat_map-append}
 use Rattle.xml_tree.specs.Tree.{Content, last, more, comment_node, Tree}
-use Rattle.xml_tree.specs.Edits.{with_text_before}
-use Rattle.xml_tree.specs.Nodes.{content_of, AreNormal}
+use Rattle.xml_tree.specs.Edits.{with_text_prepended}
+use Rattle.xml_tree.specs.Nodes.{content_of, AreNormalized}
 use Rattle.xml_tree.specs.declared.tree.Node.{Node}
 use Rattle.xml_tree.specs.declared.tree.Node.TheVariants.{Elem, Chars, Comment}
 use Rattle.xml_names.specs.Markup.{byte_len, end_tag_text, tag_front, print_comment, print_text, text_escape}
@@ -12,7 +12,7 @@ use Rattle.xml_tree.specs.inner.Print.{print_node}
 use Rattle.xml_names.proofs.ScopeLemmas.{drop_item}
 use Rattle.xml_names.proofs.PrintLengths.{byte_len-append, ascii}
 
-pub print-before : (t : List ℕ) (c : Content) → print_content (with_text_before t c) ≡ print_text t ++ print_content c
+pub print-before : (t : List ℕ) (c : Content) → print_content (with_text_prepended t c) ≡ print_text t ++ print_content c
 print-before t (last u) = flat_map-append text_escape t u
 print-before t (more u n ds ats c rest) =
     let after = (tag_front n ds ats ++ rest_of_element n (is_empty c) (print_content c)) ++ print_content rest in
@@ -34,7 +34,7 @@ byte_len-nodes ns i n within is =
     ∙ byte_len-append (print_node n) (print_content (content_of (drop (i + 1) ns)))
 
 -- a content has no nodes where it is the content of no nodes
-before-full : (c : ℕ) (cs : List ℕ) (k : Content) → is_empty (with_text_before (c ∷ cs) k) ≡ false
+before-full : (c : ℕ) (cs : List ℕ) (k : Content) → is_empty (with_text_prepended (c ∷ cs) k) ≡ false
 before-full c cs (last u) = refl
 before-full c cs (more u n ds ats k rest) = refl
 before-full c cs (comment_node u x rest) = refl
@@ -43,13 +43,13 @@ pub no_nodes : (ns : List Node) (k : Content) → content_of ns ≡ k → length
 no_nodes [] k is h = ap is_empty (sym is)
 no_nodes (n ∷ ns) k is h = absurd (omega (arith, h))
 
-first : (n : Node) (ns : List Node) → AreNormal (n ∷ ns) → is_empty (content_of (n ∷ ns)) ≡ false
+first : (n : Node) (ns : List Node) → AreNormalized (n ∷ ns) → is_empty (content_of (n ∷ ns)) ≡ false
 first (Elem e) ns h = refl
 first (Chars []) ns h = absurd h.0
 first (Chars (c ∷ cs)) ns h = before-full c cs (content_of ns)
 first (Comment x) ns h = refl
 
-pub some_nodes : (ns : List Node) (k : Content) → AreNormal ns → content_of ns ≡ k → (length ns ≡ 0 → ⊥) → is_empty k ≡ false
+pub some_nodes : (ns : List Node) (k : Content) → AreNormalized ns → content_of ns ≡ k → (length ns ≡ 0 → ⊥) → is_empty k ≡ false
 some_nodes [] k normal is h = absurd (h refl)
 some_nodes (n ∷ ns) k normal is h = ap is_empty (sym is) ∙ first n ns normal
 
@@ -77,7 +77,7 @@ module _ (m : ℕ) where
   bare_sum a o r p begins made whole = omega arith
 
   pub next_sum : (t x y z w r n : ℕ) → min (t + w) m ≡ z → n ≡ min x m → r ≡ min (t + n) m → w ≡ x + y → min (r + y) m ≡ z
-  next_sum t x y z w r n with_text_before one made parts = omega arith
+  next_sum t x y z w r n with_text_prepended one made parts = omega arith
 
   pub whole_sum : (a b c n o i r s u p k : ℕ) → o ≡ min a m → min (i + k) m ≡ min b m → i ≤ m → k ≡ 0 → n ≡ min c m
       → r ≡ min (o + i) m → s ≡ min (r + n) m → u ≡ min (s + 4) m → p ≡ a + b + (c + 3) + 1 → u ≡ min p m

@@ -2,14 +2,14 @@
 use Rattle.std.proofs.Common.{◌≡◌, ℕ, zero, suc, ◌+◌, ◌<◌, List, [], ◌∷◌, length, slice_set, remove, Option, Some, None, IsSome, false, refl, sym, ap, ◌∙◌, subst, arith}
 use Rattle.std.specs.List.{slice_get}
 use Rattle.xml_tree.specs.Tree.{Content, last, more, comment_node, more_of, Tree}
-use Rattle.xml_tree.specs.Edits.{with_text_before, cut, IsFull, first_text, TextsMeet}
-use Rattle.xml_tree.specs.Nodes.{content_of, StartsApart, AreNormal, place, is_text, elem_of, text_of, text_at, joined_beside, text_of_both as joined}
-use Rattle.xml_tree.specs.inner.Nodes.{removed_joined}
+use Rattle.xml_tree.specs.Edits.{with_text_prepended, cut, IsNonEmpty, first_text, TextsMeet}
+use Rattle.xml_tree.specs.Nodes.{content_of, StartsWithoutText, AreNormalized, place, is_text, elem_of, text_of, text_at, joined_neighbor_texts, concat_texts as joined}
+use Rattle.xml_tree.specs.inner.Nodes.{without_node}
 use Rattle.xml_tree.specs.declared.tree.Node.{Node}
 use Rattle.xml_tree.specs.declared.tree.Node.TheVariants.{Elem, Chars, Comment}
 use Rattle.xml_tree.proofs.Places.{before-nil, before-before, child_elements-before, kids_in, IsFull-append}
 
-pub cut-before : (t : List ℕ) (c : Content) (i : ℕ) → cut i (with_text_before t c) ≡ with_text_before t (cut i c)
+pub cut-before : (t : List ℕ) (c : Content) (i : ℕ) → cut i (with_text_prepended t c) ≡ with_text_prepended t (cut i c)
 cut-before t (last u) i = refl
 cut-before t (more u n ds ats c rest) zero = before-before t u rest
 cut-before t (more u n ds ats c rest) (suc i) = refl
@@ -18,14 +18,14 @@ cut-before t (comment_node u c rest) i = refl
 -- removing the element from the nodes removes it from their content
 pub content_of-remove : (n : ℕ) (ns : List Node) → n < length (kids_in ns) → content_of (remove ns (place n ns)) ≡ cut n (content_of ns)
 content_of-remove n [] h = absurd (omega arith)
-content_of-remove n (Chars t ∷ ns) h = ap (with_text_before t) (content_of-remove n ns (rw child_elements-before at h)) ∙ sym (cut-before t (content_of ns) n)
+content_of-remove n (Chars t ∷ ns) h = ap (with_text_prepended t) (content_of-remove n ns (rw child_elements-before at h)) ∙ sym (cut-before t (content_of ns) n)
 content_of-remove n (Comment c ∷ ns) h = ap (comment_node [] c) (content_of-remove n ns h)
 content_of-remove zero (Elem e ∷ ns) h = sym (before-nil (content_of ns))
 content_of-remove (suc n) (Elem e ∷ ns) h = ap (more_of [] e) (content_of-remove n ns (omega arith))
 
 content_of-cons : (x : Node) (ns ms : List Node) → content_of ns ≡ content_of ms → content_of (x ∷ ns) ≡ content_of (x ∷ ms)
 content_of-cons (Elem e) ns ms h = ap (more_of [] e) h
-content_of-cons (Chars t) ns ms h = ap (with_text_before t) h
+content_of-cons (Chars t) ns ms h = ap (with_text_prepended t) h
 content_of-cons (Comment c) ns ms h = ap (comment_node [] c) h
 
 -- two adjacent texts may be replaced by one
@@ -42,42 +42,42 @@ rejoined zero (x ∷ y ∷ []) t is = absurd (none (text_of x) is)
     none : (o : Option (List ℕ)) → joined o None ≡ Some t → ⊥
     none None h = cc
     none (Some u) h = cc
-rejoined zero (Chars a ∷ y ∷ Chars b ∷ ns) t is = ap (λ x. with_text_before x (content_of ns)) (sym (cc)) ∙ before-before a b (content_of ns)
+rejoined zero (Chars a ∷ y ∷ Chars b ∷ ns) t is = ap (λ x. with_text_prepended x (content_of ns)) (sym (cc)) ∙ before-before a b (content_of ns)
 rejoined zero (Chars a ∷ y ∷ Elem e ∷ ns) t is = cc
 rejoined zero (Chars a ∷ y ∷ Comment c ∷ ns) t is = cc
 rejoined zero (Elem e ∷ y ∷ z ∷ ns) t is = cc
 rejoined zero (Comment c ∷ y ∷ z ∷ ns) t is = cc
 rejoined (suc i) (x ∷ ns) t is = content_of-cons x _ _ (rejoined i ns t is)
 
-some_or_none : (p : ℕ) (ns : List Node) (o : Option (List ℕ)) → joined_beside p ns ≡ o → content_of (removed_joined p o ns) ≡ content_of (remove ns p)
+some_or_none : (p : ℕ) (ns : List Node) (o : Option (List ℕ)) → joined_neighbor_texts p ns ≡ o → content_of (without_node p o ns) ≡ content_of (remove ns p)
 some_or_none zero ns o is = refl
 some_or_none (suc i) ns None is = refl
 some_or_none (suc i) ns (Some t) is = rejoined i ns t is
 
-pub content_of-removed_joined : (n : ℕ) (ns : List Node) → n < length (kids_in ns) → content_of (removed_joined (place n ns) (joined_beside (place n ns) ns) ns) ≡ cut n (content_of ns)
-content_of-removed_joined n ns h = some_or_none (place n ns) ns _ refl ∙ content_of-remove n ns h
+pub content_of-without_node : (n : ℕ) (ns : List Node) → n < length (kids_in ns) → content_of (without_node (place n ns) (joined_neighbor_texts (place n ns) ns) ns) ≡ cut n (content_of ns)
+content_of-without_node n ns h = some_or_none (place n ns) ns _ refl ∙ content_of-remove n ns h
 
 -- ---- normal nodes stay normal
 
-AreNormal-tail : (x : Node) (ns : List Node) → AreNormal (x ∷ ns) → AreNormal ns
+AreNormal-tail : (x : Node) (ns : List Node) → AreNormalized (x ∷ ns) → AreNormalized ns
 AreNormal-tail (Elem e) ns a = a
 AreNormal-tail (Chars t) ns a = a.2
 AreNormal-tail (Comment c) ns a = a
 
-removed_joined-cons : (x : Node) (i : ℕ) (o : Option (List ℕ)) (ns : List Node) → removed_joined (suc (suc i)) o (x ∷ ns) ≡ x ∷ removed_joined (suc i) o ns
-removed_joined-cons x i None ns = refl
-removed_joined-cons x i (Some t) ns = refl
+without_node-cons : (x : Node) (i : ℕ) (o : Option (List ℕ)) (ns : List Node) → without_node (suc (suc i)) o (x ∷ ns) ≡ x ∷ without_node (suc i) o ns
+without_node-cons x i None ns = refl
+without_node-cons x i (Some t) ns = refl
 
-StartsApart-removed : (i : ℕ) (ns : List Node) → StartsApart ns → StartsApart (removed_joined (suc i) (joined_beside (suc i) ns) ns)
+StartsApart-removed : (i : ℕ) (ns : List Node) → StartsWithoutText ns → StartsWithoutText (without_node (suc i) (joined_neighbor_texts (suc i) ns) ns)
 StartsApart-removed i [] a = tt
 StartsApart-removed i (Chars t ∷ ns) a = absurd a
 StartsApart-removed zero (Elem e ∷ ns) a = tt
-StartsApart-removed (suc i) (Elem e ∷ ns) a = subst StartsApart (sym (removed_joined-cons (Elem e) i (joined_beside (suc i) ns) ns)) tt
+StartsApart-removed (suc i) (Elem e ∷ ns) a = subst StartsWithoutText (sym (without_node-cons (Elem e) i (joined_neighbor_texts (suc i) ns) ns)) tt
 StartsApart-removed zero (Comment c ∷ ns) a = tt
-StartsApart-removed (suc i) (Comment c ∷ ns) a = subst StartsApart (sym (removed_joined-cons (Comment c) i (joined_beside (suc i) ns) ns)) tt
+StartsApart-removed (suc i) (Comment c ∷ ns) a = subst StartsWithoutText (sym (without_node-cons (Comment c) i (joined_neighbor_texts (suc i) ns) ns)) tt
 
 -- a first node, with the node after it removed
-second_out : (x y : Node) (ns : List Node) → AreNormal (x ∷ y ∷ ns) → AreNormal (removed_joined 1 (joined_beside 1 (x ∷ y ∷ ns)) (x ∷ y ∷ ns))
+second_out : (x y : Node) (ns : List Node) → AreNormalized (x ∷ y ∷ ns) → AreNormalized (without_node 1 (joined_neighbor_texts 1 (x ∷ y ∷ ns)) (x ∷ y ∷ ns))
 second_out (Elem e) y ns a = AreNormal-tail y ns a
 second_out (Comment c) y ns a = AreNormal-tail y ns a
 second_out (Chars t) y [] a = (a.0, tt, tt)
@@ -85,41 +85,41 @@ second_out (Chars t) y (Elem e ∷ ns) a = (a.0, tt, AreNormal-tail y (Elem e �
 second_out (Chars t) y (Comment c ∷ ns) a = (a.0, tt, AreNormal-tail y (Comment c ∷ ns) a.2)
 second_out (Chars t) y (Chars u ∷ ns) a = let b = AreNormal-tail y (Chars u ∷ ns) a.2 in (IsFull-append t u a.0, b.1, b.2)
 
-AreNormal-removed : (i : ℕ) (ns : List Node) → AreNormal ns → AreNormal (removed_joined (suc i) (joined_beside (suc i) ns) ns)
+AreNormal-removed : (i : ℕ) (ns : List Node) → AreNormalized ns → AreNormalized (without_node (suc i) (joined_neighbor_texts (suc i) ns) ns)
 AreNormal-removed i [] a = tt
 AreNormal-removed zero (x ∷ y ∷ ns) a = second_out x y ns a
 AreNormal-removed zero (Elem e ∷ []) a = tt
 AreNormal-removed zero (Chars t ∷ []) a = (a.0, tt, tt)
 AreNormal-removed zero (Comment c ∷ []) a = tt
-AreNormal-removed (suc i) (Elem e ∷ ns) a = subst AreNormal (sym (removed_joined-cons (Elem e) i (joined_beside (suc i) ns) ns)) (AreNormal-removed i ns a)
-AreNormal-removed (suc i) (Comment c ∷ ns) a = subst AreNormal (sym (removed_joined-cons (Comment c) i (joined_beside (suc i) ns) ns)) (AreNormal-removed i ns a)
+AreNormal-removed (suc i) (Elem e ∷ ns) a = subst AreNormalized (sym (without_node-cons (Elem e) i (joined_neighbor_texts (suc i) ns) ns)) (AreNormal-removed i ns a)
+AreNormal-removed (suc i) (Comment c ∷ ns) a = subst AreNormalized (sym (without_node-cons (Comment c) i (joined_neighbor_texts (suc i) ns) ns)) (AreNormal-removed i ns a)
 AreNormal-removed (suc i) (Chars t ∷ ns) a =
-    subst AreNormal (sym (removed_joined-cons (Chars t) i (joined_beside (suc i) ns) ns)) (a.0, StartsApart-removed i ns a.1, AreNormal-removed i ns a.2)
+    subst AreNormalized (sym (without_node-cons (Chars t) i (joined_neighbor_texts (suc i) ns) ns)) (a.0, StartsApart-removed i ns a.1, AreNormal-removed i ns a.2)
 
-pub AreNormal-removed_joined : (p : ℕ) (ns : List Node) → AreNormal ns → AreNormal (removed_joined p (joined_beside p ns) ns)
-AreNormal-removed_joined zero [] a = tt
-AreNormal-removed_joined zero (x ∷ ns) a = AreNormal-tail x ns a
-AreNormal-removed_joined (suc i) ns a = AreNormal-removed i ns a
+pub AreNormal-without_node : (p : ℕ) (ns : List Node) → AreNormalized ns → AreNormalized (without_node p (joined_neighbor_texts p ns) ns)
+AreNormal-without_node zero [] a = tt
+AreNormal-without_node zero (x ∷ ns) a = AreNormal-tail x ns a
+AreNormal-without_node (suc i) ns a = AreNormal-removed i ns a
 
 -- ---- where texts meet
 
 -- after a node that isn't a text, the texts beside a place are the ones without that node
-later : (x : Node) (ns : List Node) (k : ℕ) → is_text x ≡ false → IsSome (joined_beside (suc k) (x ∷ ns)) → IsSome (joined_beside k ns)
+later : (x : Node) (ns : List Node) (k : ℕ) → is_text x ≡ false → IsSome (joined_neighbor_texts (suc k) (x ∷ ns)) → IsSome (joined_neighbor_texts k ns)
 later (Elem e) ns zero f h = cc
 later (Comment c) ns zero f h = cc
 later (Chars t) ns k f h = cc
 later x ns (suc k) f h = h
 
-texts_meet_behind : (t : List ℕ) (n : ℕ) (ns : List Node) → IsFull t → StartsApart ns → n < length (kids_in ns)
-    → ((k : ℕ) → k < length (kids_in ns) → AreNormal ns → IsSome (joined_beside (place k ns) ns) → TextsMeet k (content_of ns))
-    → AreNormal ns → IsSome (joined_beside (suc (place n ns)) (Chars t ∷ ns)) → TextsMeet n (with_text_before t (content_of ns))
+texts_meet_behind : (t : List ℕ) (n : ℕ) (ns : List Node) → IsNonEmpty t → StartsWithoutText ns → n < length (kids_in ns)
+    → ((k : ℕ) → k < length (kids_in ns) → AreNormalized ns → IsSome (joined_neighbor_texts (place k ns) ns) → TextsMeet k (content_of ns))
+    → AreNormalized ns → IsSome (joined_neighbor_texts (suc (place n ns)) (Chars t ∷ ns)) → TextsMeet n (with_text_prepended t (content_of ns))
 texts_meet_behind t n [] f s h ih a m = absurd (omega arith)
 texts_meet_behind t zero (Elem e ∷ []) f s h ih a m = cc
 texts_meet_behind t zero (Elem e ∷ Elem k ∷ ns) f s h ih a m = cc
 texts_meet_behind t zero (Elem e ∷ Comment c ∷ ns) f s h ih a m = cc
 texts_meet_behind t zero (Elem e ∷ Chars u ∷ ns) f s h ih a m = (IsFull-append t [] f, first_full u (content_of ns) a.0)
   where
-    first_full : (x : List ℕ) (c : Content) → IsFull x → IsFull (first_text (with_text_before x c))
+    first_full : (x : List ℕ) (c : Content) → IsNonEmpty x → IsNonEmpty (first_text (with_text_prepended x c))
     first_full x (last y) g = IsFull-append x y g
     first_full x (more y n' ds ats c rest) g = IsFull-append x y g
     first_full x (comment_node y c rest) g = IsFull-append x y g
@@ -128,7 +128,7 @@ texts_meet_behind t n (Chars u ∷ ns) f s h ih a m = absurd s
 texts_meet_behind t n (Comment c ∷ ns) f s h ih a m = ih n h a m
 
 -- there is a joined text only if texts meet
-pub TextsMeet-joined : (n : ℕ) (ns : List Node) → n < length (kids_in ns) → AreNormal ns → IsSome (joined_beside (place n ns) ns) → TextsMeet n (content_of ns)
+pub TextsMeet-joined : (n : ℕ) (ns : List Node) → n < length (kids_in ns) → AreNormalized ns → IsSome (joined_neighbor_texts (place n ns) ns) → TextsMeet n (content_of ns)
 TextsMeet-joined n [] h a m = absurd (omega arith)
 TextsMeet-joined zero (Elem e ∷ ns) h a m = cc
 TextsMeet-joined (suc n) (Elem e ∷ ns) h a m = TextsMeet-joined n ns (omega arith) a (later (Elem e) ns (place n ns) refl m)
@@ -164,6 +164,6 @@ text_within zero (x ∷ ns) o h = omega arith
 text_within (suc i) (x ∷ ns) o h = omega (arith, text_within i ns o h)
 
 -- texts beside a place are nodes beside it
-pub beside_within : (p : ℕ) (ns : List Node) → IsSome (joined_beside p ns) → (0 < p) × (p + 1 < length ns)
+pub beside_within : (p : ℕ) (ns : List Node) → IsSome (joined_neighbor_texts p ns) → (0 < p) × (p + 1 < length ns)
 beside_within zero ns h = cc
 beside_within (suc i) ns h = let far = text_within (suc (suc i)) ns (text_at i ns) h in (omega arith, omega arith)

@@ -17,6 +17,6 @@ abbrev pub nodes_row : RattleType
 nodes_row = vec.the_row node.the_row global.the_row ghosts
 
 -- the nodes end with the last one replaced by the element's final value
-abbrev pub LendsLast : MutBor (Vec Node Global) → MutBor Tree → Fml
-LendsLast s r =
+abbrev pub LendsLastElement : MutBor (Vec Node Global) → MutBor Tree → Fml
+LendsLastElement s r =
     Lends nodes_row element.the_row s r (λ w. with_item s.now (length s.now.items - 1) (Elem w))

@@ -2,7 +2,7 @@
 use Rattle.std.specs.Prelude.{ℕ, zero, suc, Bool, true, false, List, [], ◌∷◌, ◌++◌, Option, None}
 use Rattle.std.specs.Prelude.{Some, take, drop, option_and_then, slice_get}
 use Rattle.xml_tree.specs.Tree.{Content, last, more, comment_node, more_of, Tree, tree_of, height}
-use Rattle.xml_tree.specs.Edits.{with_text_before, IsFull}
+use Rattle.xml_tree.specs.Edits.{with_text_prepended, IsNonEmpty}
 use Rattle.xml_tree.specs.declared.tree.Node.{Node}
 use Rattle.xml_tree.specs.declared.tree.Node.TheVariants.{Elem, Chars, Comment}
 
@@ -10,7 +10,7 @@ use Rattle.xml_tree.specs.declared.tree.Node.TheVariants.{Elem, Chars, Comment}
 abbrev pub content_of : List Node → Content
 content_of [] = last []
 content_of (Elem e ∷ ns) = more_of [] e (content_of ns)
-content_of (Chars t ∷ ns) = with_text_before t (content_of ns)
+content_of (Chars t ∷ ns) = with_text_prepended t (content_of ns)
 content_of (Comment c ∷ ns) = comment_node [] c (content_of ns)
 
 -- a text as a node; none if it is empty
@@ -25,18 +25,18 @@ nodes_of (more t n ds ats c rest) = text_node t ++ Elem (tree_of n ds ats c) ∷
 nodes_of (comment_node t c rest) = text_node t ++ Comment c ∷ nodes_of rest
 
 -- the first node isn't a text
-abbrev pub StartsApart : List Node → Type 0
-StartsApart [] = Unit {0}
-StartsApart (Elem e ∷ ns) = Unit {0}
-StartsApart (Chars t ∷ ns) = ⊥
-StartsApart (Comment c ∷ ns) = Unit {0}
+abbrev pub StartsWithoutText : List Node → Type 0
+StartsWithoutText [] = Unit {0}
+StartsWithoutText (Elem e ∷ ns) = Unit {0}
+StartsWithoutText (Chars t ∷ ns) = ⊥
+StartsWithoutText (Comment c ∷ ns) = Unit {0}
 
 -- no text is empty, and no two texts meet
-abbrev pub AreNormal : List Node → Type 0
-AreNormal [] = Unit {0}
-AreNormal (Elem e ∷ ns) = AreNormal ns
-AreNormal (Chars t ∷ ns) = IsFull t × StartsApart ns × AreNormal ns
-AreNormal (Comment c ∷ ns) = AreNormal ns
+abbrev pub AreNormalized : List Node → Type 0
+AreNormalized [] = Unit {0}
+AreNormalized (Elem e ∷ ns) = AreNormalized ns
+AreNormalized (Chars t ∷ ns) = IsNonEmpty t × StartsWithoutText ns × AreNormalized ns
+AreNormalized (Comment c ∷ ns) = AreNormalized ns
 
 -- how many levels of elements a node has
 abbrev pub node_height : Node → ℕ
@@ -90,22 +90,23 @@ abbrev pub text_at : ℕ → List Node → Option (List ℕ)
 text_at i ns = option_and_then text_of (slice_get ns i)
 
 -- two texts concatenated, where both are there
-abbrev pub text_of_both : Option (List ℕ) → Option (List ℕ) → Option (List ℕ)
-text_of_both None u = None
-text_of_both (Some t) None = None
-text_of_both (Some t) (Some u) = Some (t ++ u)
+abbrev pub concat_texts : Option (List ℕ) → Option (List ℕ) → Option (List ℕ)
+concat_texts None u = None
+concat_texts (Some t) None = None
+concat_texts (Some t) (Some u) = Some (t ++ u)
 
 -- the texts directly before and after the i-th node, joined, where both nodes there are texts
-abbrev pub joined_beside : ℕ → List Node → Option (List ℕ)
-joined_beside zero ns = None
-joined_beside (suc i) ns = text_of_both (text_at i ns) (text_at (suc (suc i)) ns)
+abbrev pub joined_neighbor_texts : ℕ → List Node → Option (List ℕ)
+joined_neighbor_texts zero ns = None
+joined_neighbor_texts (suc i) ns = concat_texts (text_at i ns) (text_at (suc (suc i)) ns)
 
 -- ---- runs of nodes
 
 -- a content whose nodes from one place to before another are replaced by others; texts that meet
 -- are joined, and empty ones are dropped
-abbrev pub exchanged : ℕ → ℕ → List Node → Content → Content
-exchanged from to new c = content_of (take from (nodes_of c) ++ (new ++ drop to (nodes_of c)))
+abbrev pub exchange_in_content : ℕ → ℕ → List Node → Content → Content
+exchange_in_content from to new c =
+    content_of (take from (nodes_of c) ++ (new ++ drop to (nodes_of c)))
 
 abbrev pub exchange_nodes : ℕ → ℕ → List Node → Tree → Tree
-exchange_nodes from to new e = record e { content = exchanged from to new e.content }
+exchange_nodes from to new e = record e { content = exchange_in_content from to new e.content }

@@ -30,9 +30,9 @@ abbrev pub more_of : List ℕ → Tree → Content → Content
 more_of t e rest = more t e.name e.decls e.attrs e.content rest
 
 -- content of these elements, without any text or comment
-abbrev pub of_children : List Tree → Content
-of_children [] = last []
-of_children (e ∷ es) = more_of [] e (of_children es)
+abbrev pub content_of_children : List Tree → Content
+content_of_children [] = last []
+content_of_children (e ∷ es) = more_of [] e (content_of_children es)
 
 -- ---- depth
 

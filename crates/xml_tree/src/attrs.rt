@@ -2,10 +2,10 @@
 ghost use Rattle.std.specs.Prelude.{◌≡◌, ◌<◌, ◌++◌, ◌∷◌, [], suc, length, vec_capacity, None, Some};
 ghost use Rattle.std.specs.Prelude.{IfOk, OnOk, OnErr, option_map, slice_get, ◌≤◌};
 ghost use Rattle.std.specs.List.{find, remove};
-ghost use Rattle.xml_names.specs.Attributes.{is_written_so, with_attr, with_value, without_attr};
-ghost use Rattle.xml_tree.specs.Reservations.{HasRoom};
+ghost use Rattle.xml_names.specs.Attributes.{has_qname, with_attr, with_value_at, without_attr};
+ghost use Rattle.xml_tree.specs.Reservations.{HasCapacity};
 ghost use Rattle.std.specs.Option.{option_copied};
-ghost use Rattle.xml_tree.specs.inner.Attributes.{first_place};
+ghost use Rattle.xml_tree.specs.inner.Attributes.{first_index};
 
 use std::alloc::AllocError;
 use std::mem;
@@ -25,7 +25,7 @@ pub(crate) fn exchange_value(attrs: &mut Vec<Attr>, at: usize, value: Text) -> T
     requires { at < length attrs.old.items }
     ensures former_value { option_map (λ attr. attr.value) (slice_get attrs.old.items at)
         ≡ Some result }
-    ensures value_replaced { attrs.new.items ≡ with_value at value attrs.old.items }
+    ensures value_replaced { attrs.new.items ≡ with_value_at at value attrs.old.items }
 {
     mem::replace(&mut attrs[at].value, value)
 }
@@ -38,13 +38,13 @@ pub(crate) fn set(
     value: Text,
 ) -> Result<Option<Text>, AllocError>
     ensures former_value { IfOk result
-        (λ old. old ≡ option_map (λ attr. attr.value) (find (is_written_so name) attrs.old.items)) }
+        (λ old. old ≡ option_map (λ attr. attr.value) (find (has_qname name) attrs.old.items)) }
     ensures writes_attribute { OnOk result
         (attrs.new.items ≡ with_attr name value attrs.old.items) }
     ensures err_unchanged { OnErr result (attrs.new.items ≡ attrs.old.items) }
-    ensures err_if_new { OnErr result (find (is_written_so name) attrs.old.items ≡ None) }
+    ensures err_if_new { OnErr result (find (has_qname name) attrs.old.items ≡ None) }
 {
-    let place = place_of_attr(attrs, &name);
+    let place = attr_index(attrs, &name);
     if place < attrs.len() {
         return Ok(Some(exchange_value(attrs, place, value)));
     }
@@ -64,10 +64,10 @@ pub(crate) fn take_at(attrs: &mut Vec<Attr>, at: usize) -> Attr
 // Removes the attribute of a name, if there is one.
 #[tactic(auto, using(crate::proofs::AttrLemmas::by_place))]
 pub(crate) fn take(attrs: &mut Vec<Attr>, name: &Name) -> Option<Attr>
-    ensures attribute_taken { result ≡ find (is_written_so name.now) attrs.old.items }
+    ensures attribute_taken { result ≡ find (has_qname name.now) attrs.old.items }
     ensures attribute_is_gone { attrs.new.items ≡ without_attr name.now attrs.old.items }
 {
-    let place = place_of_attr(attrs, name);
+    let place = attr_index(attrs, name);
     if place < attrs.len() {
         return Some(take_at(attrs, place));
     }
@@ -76,8 +76,8 @@ pub(crate) fn take(attrs: &mut Vec<Attr>, name: &Name) -> Option<Attr>
 
 // Appends an attribute. All attributes move into `room`, which has capacity for them and one
 // more.
-fn push_in_room(attrs: &mut Vec<Attr>, attr: Attr, room: Vec<Attr>)
-    requires { HasRoom (suc (length attrs.old.items)) room }
+fn push_attr_reserved(attrs: &mut Vec<Attr>, attr: Attr, room: Vec<Attr>)
+    requires { HasCapacity (suc (length attrs.old.items)) room }
     ensures adds_attribute { attrs.new.items ≡ attrs.old.items ++ attr ∷ [] }
 {
     let mut moved = room;
@@ -91,21 +91,21 @@ fn push_in_room(attrs: &mut Vec<Attr>, attr: Attr, room: Vec<Attr>)
 #[tactic(auto, using(crate::proofs::AttrLemmas::by_place))]
 pub(crate) fn set_in_room(attrs: &mut Vec<Attr>, name: Name, value: Text, room: Vec<Attr>)
     requires empty { room.items ≡ [] }
-    requires room_left { find (is_written_so name) attrs.old.items ≡ None
+    requires room_left { find (has_qname name) attrs.old.items ≡ None
         → length attrs.old.items < vec_capacity room }
     ensures writes_attribute { attrs.new.items ≡ with_attr name value attrs.old.items }
 {
-    let place = place_of_attr(attrs, &name);
+    let place = attr_index(attrs, &name);
     if place < attrs.len() {
         let _old = exchange_value(attrs, place, value);
         return;
     }
-    push_in_room(attrs, Attr { name, value }, room);
+    push_attr_reserved(attrs, Attr { name, value }, room);
 }
 
 // The first attribute of this name.
-pub(crate) fn attr_of<'a>(attrs: &'a [Attr], name: &Name) -> Option<&'a Attr>
-    ensures exact { option_copied result ≡ find (is_written_so name.now) attrs.now }
+pub(crate) fn find_attr<'a>(attrs: &'a [Attr], name: &Name) -> Option<&'a Attr>
+    ensures exact { option_copied result ≡ find (has_qname name.now) attrs.now }
 {
     for attr in attrs {
         if attr.name.same(name) {
@@ -116,8 +116,8 @@ pub(crate) fn attr_of<'a>(attrs: &'a [Attr], name: &Name) -> Option<&'a Attr>
 }
 
 // The place of the first attribute of this name, or the number of attributes.
-pub(crate) fn place_of_attr(attrs: &[Attr], name: &Name) -> usize
-    ensures exact { result ≡ first_place (is_written_so name.now) attrs.now }
+pub(crate) fn attr_index(attrs: &[Attr], name: &Name) -> usize
+    ensures exact { result ≡ first_index (has_qname name.now) attrs.now }
     ensures lies_within { result ≤ length attrs.now }
 {
     for (i, attr) in attrs.iter().enumerate() {

@@ -1,20 +1,20 @@
 //! Edits of one element, and of the element at a path. Each contract gives the whole new tree.
 ghost use Rattle.std.specs.Prelude.{◌≡◌, ◌<◌, ◌≤◌, length, Some, None, IsSome, IsSomeAnd, IfOk};
 ghost use Rattle.std.specs.Prelude.{IfErr, OnOk, OnErr, option_map, slice_get};
-ghost use Rattle.xml_names.specs.Attributes.{is_written_so};
+ghost use Rattle.xml_names.specs.Attributes.{has_qname};
 ghost use Rattle.std.specs.List.{find, remove};
 ghost use Rattle.std.specs.Option.{option_copied};
 ghost use Rattle.xml_tree.specs.Tree.{at, child_elements_of};
 ghost use Rattle.xml_tree.specs.Edits.{TextsMeet, TextsMeetAt, attr_at, change_attr, cut_child};
-ghost use Rattle.xml_tree.specs.Edits.{cut_out, drop_at, drop_attr, put_in, put_kid, put_over};
-ghost use Rattle.xml_tree.specs.Edits.{set_at, take_in, write_attr};
+ghost use Rattle.xml_tree.specs.Edits.{cut_out, drop_attr_at, drop_attr, put_in, put_kid, put_over};
+ghost use Rattle.xml_tree.specs.Edits.{set_attr_at, take_in, set_attr_value};
 ghost use Rattle.xml_tree.specs.Nodes.{exchange_nodes, nodes_of};
 
 use crate::attrs;
-use crate::attrs::attr_of;
-use crate::nodes::{put_elem, take_elem};
+use crate::attrs::find_attr;
+use crate::node_splices::exchange_node_range;
+use crate::nodes::{insert_elem, remove_elem};
 use crate::path::Path;
-use crate::runs::exchange;
 use crate::tree::{Element, Node};
 use std::alloc::AllocError;
 use std::mem;
@@ -33,7 +33,7 @@ impl Element {
         ensures err_unchanged { OnErr result (self.new ≡ self.old) }
         ensures err_returns_element { IfErr result (λ refused. refused.1 ≡ element) }
     {
-        put_elem(&mut self.nodes, gap, element)
+        insert_elem(&mut self.nodes, gap, element)
     }
 
     /// Removes a child element, counted from 0, and joins texts that meet.
@@ -49,7 +49,7 @@ impl Element {
         ensures err_unchanged { OnErr result (self.new ≡ self.old) }
         ensures err_texts_meet { OnErr result (TextsMeet child self.old.content) }
     {
-        take_elem(&mut self.nodes, child)
+        remove_elem(&mut self.nodes, child)
     }
 
     /// Replaces the nodes from one place to before another. Texts that meet are joined, and empty
@@ -69,7 +69,7 @@ impl Element {
             (self.new ≡ exchange_nodes from to nodes.items self.old) }
         ensures err_unchanged { OnErr result (self.new ≡ self.old) }
     {
-        exchange(&mut self.nodes, from, to, nodes)
+        exchange_node_range(&mut self.nodes, from, to, nodes)
     }
 }
 
@@ -78,9 +78,9 @@ impl Element {
     /// The attribute of this prefix and local name, borrowed: None if there is none. Does not
     /// allocate.
     pub fn attr(&self, name: &Name) -> Option<&Attr>
-        ensures exact { option_copied result ≡ find (is_written_so name.now) self.now.attrs }
+        ensures exact { option_copied result ≡ find (has_qname name.now) self.now.attrs }
     {
-        attr_of(&self.attrs, name)
+        find_attr(&self.attrs, name)
     }
 
     /// Replaces the value of an attribute, counted from 0, and returns the old one. Does not
@@ -113,10 +113,10 @@ impl Element {
     pub fn set_attr(&mut self, name: Name, value: Text) -> Result<Option<Text>, AllocError>
         ensures former_value { IfOk result
             (λ old. old ≡ option_map (λ attr. attr.value)
-            (find (is_written_so name) self.old.attrs)) }
-        ensures writes_attribute { OnOk result (self.new ≡ write_attr name value self.old) }
+            (find (has_qname name) self.old.attrs)) }
+        ensures writes_attribute { OnOk result (self.new ≡ set_attr_value name value self.old) }
         ensures err_unchanged { OnErr result (self.new ≡ self.old) }
-        ensures err_if_new { OnErr result (find (is_written_so name) self.old.attrs ≡ None) }
+        ensures err_if_new { OnErr result (find (has_qname name) self.old.attrs ≡ None) }
     {
         attrs::set(&mut self.attrs, name, value)
     }
@@ -124,7 +124,7 @@ impl Element {
     /// Removes the attribute of this prefix and local name: None if there is none. Does not
     /// allocate.
     pub fn drop_attr(&mut self, name: &Name) -> Option<Attr>
-        ensures attribute_taken { result ≡ find (is_written_so name.now) self.old.attrs }
+        ensures attribute_taken { result ≡ find (has_qname name.now) self.old.attrs }
         ensures attribute_is_gone { self.new ≡ drop_attr name.now self.old }
     {
         attrs::take(&mut self.attrs, name)
@@ -226,7 +226,7 @@ impl Element {
     /// # Errors
     /// `NoMemory` when out of memory, possible only for a new attribute. The tree is then
     /// unchanged.
-    pub fn set_at(
+    pub fn set_attr_at(
         &mut self,
         path: &Path,
         name: Name,
@@ -235,7 +235,8 @@ impl Element {
         requires { IsSome (at path.now self.old) }
         ensures former_value { IfOk result
             (λ old. old ≡ option_map (λ attr. attr.value) (attr_at path.now name self.old)) }
-        ensures writes_attribute { OnOk result (self.new ≡ set_at path.now name value self.old) }
+        ensures writes_attribute { OnOk result
+            (self.new ≡ set_attr_at path.now name value self.old) }
         ensures err_unchanged { OnErr result (self.new ≡ self.old) }
         ensures err_if_new { OnErr result (attr_at path.now name self.old ≡ None) }
     {
@@ -244,26 +245,27 @@ impl Element {
             |here: &mut Element| -> Result<Option<Text>, AllocError>
                 ensures former_value { IfOk result
                     (λ old. old ≡ option_map (λ attr. attr.value)
-                    (find (is_written_so name) here.old.attrs)) }
-                ensures writes_attribute { OnOk result (here.new ≡ write_attr name value here.old) }
+                    (find (has_qname name) here.old.attrs)) }
+                ensures writes_attribute { OnOk result
+                    (here.new ≡ set_attr_value name value here.old) }
                 ensures err_unchanged { OnErr result (here.new ≡ here.old) }
                 ensures err_if_new { OnErr result
-                    (find (is_written_so name) here.old.attrs ≡ None) }
+                    (find (has_qname name) here.old.attrs ≡ None) }
             { here.set_attr(name, value) },
         )
     }
 
     /// Removes an attribute of the element at a path, as `drop_attr` does. Does not allocate.
-    pub fn drop_at(&mut self, path: &Path, name: &Name) -> Option<Attr>
+    pub fn drop_attr_at(&mut self, path: &Path, name: &Name) -> Option<Attr>
         requires { IsSome (at path.now self.old) }
         ensures attribute_taken { result ≡ attr_at path.now name.now self.old }
-        ensures attribute_is_gone { self.new ≡ drop_at path.now name.now self.old }
+        ensures attribute_is_gone { self.new ≡ drop_attr_at path.now name.now self.old }
     {
         self.edit_at(
             path,
             |here: &mut Element| -> Option<Attr>
                 ensures attribute_taken { result
-                    ≡ find (is_written_so name.entry.now) here.old.attrs }
+                    ≡ find (has_qname name.entry.now) here.old.attrs }
                 ensures attribute_is_gone { here.new ≡ drop_attr name.entry.now here.old }
             { here.drop_attr(name) },
         )

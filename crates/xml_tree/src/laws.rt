@@ -4,15 +4,16 @@ ghost use Rattle.std.specs.Prelude.{IsSome, option_map, option_and_then, insert,
 ghost use Rattle.std.specs.List.{filter_map};
 ghost use Rattle.xml_tree.specs.Tree.{Content, Tree, at, height, child_elements, child_elements_of};
 ghost use Rattle.xml_names.specs.Attributes.{change_item};
-ghost use Rattle.xml_tree.specs.Edits.{change, change_at, cut, put, put_in, put_over, take_in};
+ghost use Rattle.xml_tree.specs.Edits.{change_element, change_at, cut, put, put_in, put_over};
+ghost use Rattle.xml_tree.specs.Edits.{take_in};
 ghost use Rattle.xml_tree.specs.Edits.{with_comment, with_elem, with_text};
-ghost use Rattle.xml_tree.specs.Nodes.{AreNormal, content_of, elem_of, nodes_of};
-ghost use Rattle.xml_tree.specs.DivergingPaths.{Apart};
+ghost use Rattle.xml_tree.specs.Nodes.{AreNormalized, content_of, elem_of, nodes_of};
+ghost use Rattle.xml_tree.specs.DivergingPaths.{AreDiverging};
 ghost use Rattle.xml_tree.specs.declared.tree.Node.{Node};
 
 /// A change at a path leaves what is at a diverging path.
 pub fn other_places_stay()
-    ensures other_unchanged { (p q : List ℕ) (f : Tree → Tree) (t : Tree) → Apart p q
+    ensures other_unchanged { (p q : List ℕ) (f : Tree → Tree) (t : Tree) → AreDiverging p q
         → at q (change_at p f t) ≡ at q t }
 {}
 
@@ -41,9 +42,10 @@ pub fn paths_are_short()
 /// A content and its nodes, which are normal, determine each other; and the child elements are
 /// the elements among the nodes.
 pub fn nodes_are_the_content()
-    ensures nodes_are_normal { (c : Content) → AreNormal (nodes_of c) }
+    ensures nodes_are_normal { (c : Content) → AreNormalized (nodes_of c) }
     ensures nodes_make_content { (c : Content) → content_of (nodes_of c) ≡ c }
-    ensures normal_nodes_return { (ns : List Node) → AreNormal ns → nodes_of (content_of ns) ≡ ns }
+    ensures normal_nodes_return { (ns : List Node) → AreNormalized ns
+        → nodes_of (content_of ns) ≡ ns }
     ensures elements_of_nodes { (c : Content) → child_elements c ≡ filter_map elem_of (nodes_of c) }
 {}
 
@@ -54,7 +56,7 @@ pub fn children_after_edits()
     ensures child_cut { (i : ℕ) (c : Content)
         → child_elements (cut i c) ≡ remove (child_elements c) i }
     ensures child_changed { (i : ℕ) (f : Tree → Tree) (c : Content)
-        → child_elements (change i f c) ≡ change_item i f (child_elements c) }
+        → child_elements (change_element i f c) ≡ change_item i f (child_elements c) }
     ensures element_appended { (e : Tree) (c : Content)
         → child_elements (with_elem e c) ≡ child_elements c ++ e ∷ [] }
     ensures text_appended { (s : List ℕ) (c : Content)

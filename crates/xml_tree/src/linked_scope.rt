@@ -1,23 +1,23 @@
 //! Scopes as chains of borrows.
 ghost use Rattle.std.specs.Prelude.{◌≡◌, ◌++◌, [], ◌∷◌, option_map, chars};
 ghost use Rattle.std.specs.Option.{option_copied};
-ghost use Rattle.xml_names.specs.Scopes.{bound, declared_uri, joined};
+ghost use Rattle.xml_names.specs.Scopes.{bound_uri, declared_uri, scope_decls};
 
 use crate::scope::Scope;
 use std::marker::Model;
-use xml_names::{IndexedDecls, Prefix, Text, is_xml, some_text, xml_uri};
+use xml_names::{IndexedDecls, Prefix, Text, is_xml_prefix, non_empty_uri, xml_uri};
 
 /// A scope that links to the scope around it, so nothing is copied where an element begins.
 /// Contracts see it as a list of lists of declarations, outermost first, as they see a `Scope`.
 #[derive(Drop)]
 #[cycle(around)]
 pub struct LinkedScope<'a> {
-    place: Place<'a>,
+    place: ScopeLink<'a>,
 }
 
 #[derive(Drop)]
 #[cycle(around)]
-enum Place<'a> {
+enum ScopeLink<'a> {
     // Nothing is declared.
     Nothing,
     // A scope that isn't linked.
@@ -30,16 +30,16 @@ impl<'a> Model for LinkedScope<'a> {
     ghost use Rattle.std.specs.Prelude.{List, length};
     ghost use Rattle.std.specs.Coded.{coded_list};
     ghost use Rattle.std.proofs.Common.{arith, length-append};
-    ghost use Rattle.xml_names.specs.inner.Codes.{decls_code};
+    ghost use Rattle.xml_names.specs.inner.ValueCodes.{decls_code};
     ghost use Rattle.xml_names.specs.declared.names.Decl.{Decl};
 
     ghost Value = { List (List Decl) };
 
     ghost coded = { coded_list decls_code };
 
-    ghost use Rattle.xml_tree.specs.inner.Around.{lists_at};
+    ghost use Rattle.xml_tree.specs.inner.LinkedScopes.{decl_lists};
 
-    ghost view = { λ a. lists_at a.place };
+    ghost view = { λ a. decl_lists a.place };
 
     ghost size = { length };
 
@@ -52,7 +52,7 @@ impl<'a> LinkedScope<'a> {
         ensures declares_nothing { result ≡ [] }
     {
         LinkedScope {
-            place: Place::Nothing,
+            place: ScopeLink::Nothing,
         }
     }
 
@@ -61,7 +61,7 @@ impl<'a> LinkedScope<'a> {
         ensures exact { result ≡ scope.now }
     {
         LinkedScope {
-            place: Place::Outermost(scope),
+            place: ScopeLink::Outermost(scope),
         }
     }
 
@@ -70,7 +70,7 @@ impl<'a> LinkedScope<'a> {
         ensures adds_declarations { result ≡ self.now ++ declared.now ∷ [] }
     {
         LinkedScope {
-            place: Place::Within(&*self, &*declared),
+            place: ScopeLink::Within(&*self, &*declared),
         }
     }
 
@@ -78,28 +78,28 @@ impl<'a> LinkedScope<'a> {
     /// allocate.
     pub fn resolve(&self, prefix: &Prefix) -> Option<&'a str>
         ensures resolves_as_bound { option_map (λ uri. chars uri.now) result
-            ≡ bound self.now prefix.now }
+            ≡ bound_uri self.now prefix.now }
     {
-        if is_xml(prefix.as_str()) {
+        if is_xml_prefix(prefix.as_str()) {
             return Some(xml_uri());
         }
-        some_text(self.nearest(prefix))
+        non_empty_uri(self.nearest_uri(prefix))
     }
 
     // The URI in the nearest declaration of a prefix. Most elements declare nothing.
-    fn nearest(&self, prefix: &Prefix) -> Option<&'a Text>
-        ensures exact { option_copied result ≡ declared_uri (joined self.now) prefix.now }
+    fn nearest_uri(&self, prefix: &Prefix) -> Option<&'a Text>
+        ensures exact { option_copied result ≡ declared_uri (scope_decls self.now) prefix.now }
     {
         match self.place {
-            Place::Nothing => None,
-            Place::Outermost(scope) => scope.nearest(prefix.as_str()),
-            Place::Within(outer, declared) => {
+            ScopeLink::Nothing => None,
+            ScopeLink::Outermost(scope) => scope.nearest_uri(prefix.as_str()),
+            ScopeLink::Within(outer, declared) => {
                 if declared.is_empty() {
-                    return outer.nearest(prefix);
+                    return outer.nearest_uri(prefix);
                 }
                 match declared.uri_of(prefix) {
                     Some(uri) => Some(uri),
-                    None => outer.nearest(prefix),
+                    None => outer.nearest_uri(prefix),
                 }
             }
         }

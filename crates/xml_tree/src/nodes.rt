@@ -7,12 +7,13 @@ ghost use Rattle.std.specs.Borrow.{sem};
 ghost use Rattle.std.specs.Option.{option_copied};
 ghost use Rattle.xml_tree.specs.Tree.{child_elements};
 ghost use Rattle.xml_tree.specs.Edits.{TextsMeet, cut, put, with_comment, with_elem, with_text};
-ghost use Rattle.xml_tree.specs.Nodes.{AreNormal, content_of, gap_place, joined_beside, last_elem};
+ghost use Rattle.xml_tree.specs.Nodes.{AreNormalized, content_of, gap_place, joined_neighbor_texts};
+ghost use Rattle.xml_tree.specs.Nodes.{last_elem};
 ghost use Rattle.xml_tree.specs.Nodes.{place, text_at};
-ghost use Rattle.xml_tree.specs.inner.Nodes.{ends_in_text, removed_joined};
-ghost use Rattle.xml_tree.specs.LastNodeBorrows.{LendsLast};
+ghost use Rattle.xml_tree.specs.inner.Nodes.{ends_in_text, without_node};
+ghost use Rattle.xml_tree.specs.LastNodeBorrows.{LendsLastElement};
 ghost use Rattle.xml_tree.specs.inner.NodeBorrows.{LendsChild};
-ghost use Rattle.xml_tree.specs.Reservations.{HasRoom};
+ghost use Rattle.xml_tree.specs.Reservations.{HasCapacity};
 
 use crate::tree::{Element, Node};
 use std::alloc::{AllocError, AllocFailed, Global};
@@ -20,7 +21,7 @@ use std::mem;
 use xml_names::Text;
 
 /// The place of a child element among nodes, or the number of nodes if it is absent.
-pub fn place_of(nodes: &[Node], child: usize) -> usize
+pub fn child_place(nodes: &[Node], child: usize) -> usize
     ensures exact { result ≡ place child nodes.now }
     ensures lies_within { result ≤ length nodes.now }
 {
@@ -38,7 +39,7 @@ pub fn place_of(nodes: &[Node], child: usize) -> usize
 
 // A child element, if it exists.
 #[tactic(auto, using(crate::proofs::Places::places))]
-pub(crate) fn child_of(nodes: &[Node], child: usize) -> Option<&Element>
+pub(crate) fn find_child(nodes: &[Node], child: usize) -> Option<&Element>
     ensures exact { option_copied result ≡ slice_get (child_elements (content_of nodes.now)) child }
 {
     let mut left = child;
@@ -55,13 +56,13 @@ pub(crate) fn child_of(nodes: &[Node], child: usize) -> Option<&Element>
 
 // A child element that exists, for writing.
 #[tactic(auto, using(crate::proofs::Places::places))]
-pub(crate) fn child_in(nodes: &mut Vec<Node>, child: usize) -> &mut Element
+pub(crate) fn child_mut(nodes: &mut Vec<Node>, child: usize) -> &mut Element
     requires { child < length (child_elements (content_of nodes.old.items)) }
     ensures* writes_back { sem 𝓛 (LendsChild nodes.entry child result) }
     ensures lends_element { slice_get (child_elements (content_of nodes.old.items)) child
         ≡ Some result.now }
 {
-    let at = place_of(nodes, child);
+    let at = child_place(nodes, child);
     nodes[at].elem_mut()
 }
 
@@ -69,7 +70,7 @@ pub(crate) fn child_in(nodes: &mut Vec<Node>, child: usize) -> &mut Element
 #[inline(always)]
 pub fn last_elem(nodes: &mut Vec<Node>) -> &mut Element
     requires { IsSome (last_elem nodes.old.items) }
-    ensures* writes_back { sem 𝓛 (LendsLast nodes.entry result) }
+    ensures* writes_back { sem 𝓛 (LendsLastElement nodes.entry result) }
     ensures lends_element { last_elem nodes.old.items ≡ Some result.now }
 {
     let at = nodes.len() - 1;
@@ -80,7 +81,7 @@ pub fn last_elem(nodes: &mut Vec<Node>) -> &mut Element
 #[inline(always)]
 #[tactic(auto, using(crate::proofs::Places::places))]
 pub(crate) fn push_elem_node(nodes: &mut Vec<Node>, element: Element) -> Result<(), AllocError>
-    ensures stays_normal { AreNormal nodes.old.items → AreNormal nodes.new.items }
+    ensures stays_normal { AreNormalized nodes.old.items → AreNormalized nodes.new.items }
     ensures adds_element { OnOk result
         (content_of nodes.new.items ≡ with_elem element (content_of nodes.old.items)) }
     ensures err_unchanged { OnErr result (content_of nodes.new.items ≡ content_of nodes.old.items) }
@@ -92,7 +93,7 @@ pub(crate) fn push_elem_node(nodes: &mut Vec<Node>, element: Element) -> Result<
 // Appends a comment.
 #[tactic(auto, using(crate::proofs::Places::places))]
 pub(crate) fn push_comment_node(nodes: &mut Vec<Node>, text: Text) -> Result<(), AllocError>
-    ensures stays_normal { AreNormal nodes.old.items → AreNormal nodes.new.items }
+    ensures stays_normal { AreNormalized nodes.old.items → AreNormalized nodes.new.items }
     ensures adds_comment { OnOk result
         (content_of nodes.new.items ≡ with_comment text (content_of nodes.old.items)) }
     ensures err_unchanged { OnErr result (content_of nodes.new.items ≡ content_of nodes.old.items) }
@@ -116,8 +117,8 @@ pub(crate) fn ends_in_text(nodes: &[Node]) -> bool
 // Appends a text, as `push_text` does, and copies it only where it joins another.
 #[inline(always)]
 #[tactic(auto, using(crate::proofs::Places::texts))]
-pub(crate) fn push_own_text(nodes: &mut Vec<Node>, text: Text) -> Result<(), AllocError>
-    ensures stays_normal { AreNormal nodes.old.items → AreNormal nodes.new.items }
+pub(crate) fn push_owned_text(nodes: &mut Vec<Node>, text: Text) -> Result<(), AllocError>
+    ensures stays_normal { AreNormalized nodes.old.items → AreNormalized nodes.new.items }
     ensures adds_text { OnOk result
         (content_of nodes.new.items ≡ with_text text (content_of nodes.old.items)) }
     ensures err_unchanged { OnErr result (content_of nodes.new.items ≡ content_of nodes.old.items) }
@@ -135,7 +136,7 @@ pub(crate) fn push_own_text(nodes: &mut Vec<Node>, text: Text) -> Result<(), All
 // Appends a text: it joins a text that is the last node, and an empty text is ignored.
 #[tactic(auto, using(crate::proofs::Places::texts))]
 pub(crate) fn push_text(nodes: &mut Vec<Node>, text: &str) -> Result<(), AllocError>
-    ensures stays_normal { AreNormal nodes.old.items → AreNormal nodes.new.items }
+    ensures stays_normal { AreNormalized nodes.old.items → AreNormalized nodes.new.items }
     ensures adds_text { OnOk result
         (content_of nodes.new.items ≡ with_text (chars text.now) (content_of nodes.old.items)) }
     ensures err_unchanged { OnErr result (content_of nodes.new.items ≡ content_of nodes.old.items) }
@@ -163,32 +164,32 @@ pub(crate) fn text_at(nodes: &[Node], place: usize) -> Option<&Text>
 }
 
 /// The place of a gap between child elements among nodes: after the child before it.
-pub fn place_of_gap(nodes: &[Node], gap: usize) -> usize
+pub fn place_of_insertion(nodes: &[Node], gap: usize) -> usize
     ensures exact { result ≡ gap_place gap nodes.now }
 {
     if gap == 0 {
         0
     } else {
-        place_of(nodes, gap - 1) + 1
+        child_place(nodes, gap - 1) + 1
     }
 }
 
 // Inserts an element into a gap.
 #[tactic(auto, using(crate::proofs::Places::places))]
-pub(crate) fn put_elem(
+pub(crate) fn insert_elem(
     nodes: &mut Vec<Node>,
     gap: usize,
     element: Element,
 ) -> Result<(), (AllocError, Element)>
     requires { gap ≤ length (child_elements (content_of nodes.old.items)) }
-    ensures stays_normal { AreNormal nodes.old.items → AreNormal nodes.new.items }
+    ensures stays_normal { AreNormalized nodes.old.items → AreNormalized nodes.new.items }
     ensures puts_element { OnOk result
         (content_of nodes.new.items ≡ put gap element (content_of nodes.old.items)) }
     ensures err_unchanged { OnErr result (content_of nodes.new.items ≡ content_of nodes.old.items) }
     ensures err_returns_element { IfErr result (λ refused. refused.1 ≡ element) }
     ensures room_is_ok { length nodes.old.items < vec_capacity nodes.old → IsOk result }
 {
-    let place = place_of_gap(nodes, gap);
+    let place = place_of_insertion(nodes, gap);
     match nodes.insert(place, Node::Elem(element)) {
         Ok(()) => Ok(()),
         Err(AllocFailed { value }) => Err((AllocError, value.into_elem())),
@@ -198,23 +199,32 @@ pub(crate) fn put_elem(
 // Inserts an element into a gap. The nodes move into `room`, which has capacity for them and one
 // more.
 #[tactic(auto, using(crate::proofs::Places::places))]
-pub(crate) fn put_elem_in_room(nodes: &mut Vec<Node>, gap: usize, element: Element, room: Vec<Node>)
+pub(crate) fn insert_elem_reserved(
+    nodes: &mut Vec<Node>,
+    gap: usize,
+    element: Element,
+    room: Vec<Node>,
+)
     requires gap_in_range { gap ≤ length (child_elements (content_of nodes.old.items)) }
-    requires room_left { HasRoom (suc (length nodes.old.items)) room }
-    ensures stays_normal { AreNormal nodes.old.items → AreNormal nodes.new.items }
+    requires room_left { HasCapacity (suc (length nodes.old.items)) room }
+    ensures stays_normal { AreNormalized nodes.old.items → AreNormalized nodes.new.items }
     ensures puts_element { content_of nodes.new.items
         ≡ put gap element (content_of nodes.old.items) }
 {
     let mut moved = room;
     moved.append(nodes).unwrap();
     *nodes = moved;
-    put_elem(nodes, gap, element).unwrap();
+    insert_elem(nodes, gap, element).unwrap();
 }
 
 // The texts directly before and after a node, joined, where both nodes there are texts.
-fn joined_beside(alloc: Global, nodes: &[Node], place: usize) -> Result<Option<Text>, AllocError>
-    ensures ok { IfOk result (λ text. text ≡ joined_beside place nodes.now) }
-    ensures err_texts_join { OnErr result (IsSome (joined_beside place nodes.now)) }
+fn joined_neighbor_texts(
+    alloc: Global,
+    nodes: &[Node],
+    place: usize,
+) -> Result<Option<Text>, AllocError>
+    ensures ok { IfOk result (λ text. text ≡ joined_neighbor_texts place nodes.now) }
+    ensures err_texts_join { OnErr result (IsSome (joined_neighbor_texts place nodes.now)) }
 {
     if place == 0 {
         return Ok(None);
@@ -231,7 +241,7 @@ fn joined_beside(alloc: Global, nodes: &[Node], place: usize) -> Result<Option<T
 }
 
 // Replaces a node and the one before it by a text.
-fn replace_two(nodes: &mut Vec<Node>, place: usize, text: Text)
+fn replace_two_nodes(nodes: &mut Vec<Node>, place: usize, text: Text)
     requires between { (0 < place) × (place < length nodes.old.items) }
     ensures joint_text { nodes.new.items
         ≡ slice_set (remove nodes.old.items place) (place - 1) (Chars text) }
@@ -245,60 +255,62 @@ fn remove_joined(nodes: &mut Vec<Node>, place: usize, joined: Option<Text>) -> N
     requires place_exists { place < length nodes.old.items }
     requires between { IsSome joined → (0 < place) × (place + 1 < length nodes.old.items) }
     ensures previous_element { slice_get nodes.old.items place ≡ Some result }
-    ensures others_joined { nodes.new.items ≡ removed_joined place joined nodes.old.items }
+    ensures others_joined { nodes.new.items ≡ without_node place joined nodes.old.items }
 {
     let taken = nodes.remove(place);
     match joined {
-        Some(text) => replace_two(nodes, place, text),
+        Some(text) => replace_two_nodes(nodes, place, text),
         None => {}
     }
     taken
 }
 
 // The texts directly beside an element, joined, if there are two: what removing it needs.
-pub(crate) fn joined_around(
+pub(crate) fn joined_texts_around(
     alloc: Global,
     nodes: &[Node],
     child: usize,
 ) -> Result<Option<Text>, AllocError>
     requires { child < length (child_elements (content_of nodes.now)) }
-    ensures ok { IfOk result (λ text. text ≡ joined_beside (place child nodes.now) nodes.now) }
-    ensures err_texts_meet { AreNormal nodes.now
+    ensures ok { IfOk result
+        (λ text. text ≡ joined_neighbor_texts (place child nodes.now) nodes.now) }
+    ensures err_texts_meet { AreNormalized nodes.now
         → OnErr result (TextsMeet child (content_of nodes.now)) }
 {
-    joined_beside(alloc, nodes, place_of(nodes, child))
+    joined_neighbor_texts(alloc, nodes, child_place(nodes, child))
 }
 
 // Removes an element. The texts beside it are replaced by one, if there are two.
-pub(crate) fn take_elem_joining(
+pub(crate) fn remove_elem_joining(
     nodes: &mut Vec<Node>,
     child: usize,
     joined: Option<Text>,
 ) -> Element
     requires place_exists { child < length (child_elements (content_of nodes.old.items)) }
-    requires joined_texts { joined ≡ joined_beside (place child nodes.old.items) nodes.old.items }
-    ensures stays_normal { AreNormal nodes.old.items → AreNormal nodes.new.items }
+    requires joined_texts { joined
+        ≡ joined_neighbor_texts (place child nodes.old.items) nodes.old.items }
+    ensures stays_normal { AreNormalized nodes.old.items → AreNormalized nodes.new.items }
     ensures previous_element { slice_get (child_elements (content_of nodes.old.items)) child
         ≡ Some result }
     ensures others_joined { content_of nodes.new.items ≡ cut child (content_of nodes.old.items) }
 {
-    let place = place_of(nodes, child);
+    let place = child_place(nodes, child);
     let taken = remove_joined(nodes, place, joined);
     taken.into_elem()
 }
 
 // Removes an element. Texts that meet are joined; only that allocates, before anything changes.
-pub(crate) fn take_elem(nodes: &mut Vec<Node>, child: usize) -> Result<Element, AllocError>
+pub(crate) fn remove_elem(nodes: &mut Vec<Node>, child: usize) -> Result<Element, AllocError>
     requires { child < length (child_elements (content_of nodes.old.items)) }
-    ensures stays_normal { AreNormal nodes.old.items → AreNormal nodes.new.items }
+    ensures stays_normal { AreNormalized nodes.old.items → AreNormalized nodes.new.items }
     ensures previous_element { IfOk result
         (λ element. slice_get (child_elements (content_of nodes.old.items)) child ≡ Some element) }
     ensures cuts_element { OnOk result
         (content_of nodes.new.items ≡ cut child (content_of nodes.old.items)) }
     ensures err_unchanged { OnErr result (content_of nodes.new.items ≡ content_of nodes.old.items) }
-    ensures err_texts_meet { AreNormal nodes.old.items
+    ensures err_texts_meet { AreNormalized nodes.old.items
         → OnErr result (TextsMeet child (content_of nodes.old.items)) }
 {
-    let joined = joined_around(*nodes.allocator(), nodes, child)?;
-    Ok(take_elem_joining(nodes, child, joined))
+    let joined = joined_texts_around(*nodes.allocator(), nodes, child)?;
+    Ok(remove_elem_joining(nodes, child, joined))
 }

@@ -5,13 +5,15 @@ ghost use Rattle.xml_tree.specs.Print.{print};
 ghost use Rattle.xml_tree.specs.inner.Print.{print_node};
 
 use crate::tree::{Element, Node};
-use xml_names::{Text, attrs_len, decls_len, name_len, text_len};
+use xml_names::{Text, attrs_len, decls_len, escaped_text_len, name_len};
 
 // The length of the name, declarations and attributes of an element.
 #[tactic(auto, using(xml_names::proofs::PrintLengths::lengths))]
-fn opening_len(element: &Element) -> usize
+fn tag_front_len(element: &Element) -> usize
     ensures exact { result
-        ≡ min (byte_len (tag_front element.now.name element.now.decls element.now.attrs)) usize.MAX }
+        ≡ min
+        (byte_len (tag_front element.now.name element.now.decls element.now.attrs))
+        usize.MAX }
 {
     let names = name_len(element.name());
     let lists = decls_len(element.decls()).saturating_add(attrs_len(element.attrs()));
@@ -33,7 +35,7 @@ fn comment_len(text: &Text) -> usize
 pub fn printed_len(element: &Element) -> usize
     ensures exact { result ≡ min (byte_len (print element.now)) usize.MAX }
 {
-    let tag_front = opening_len(element);
+    let tag_front = tag_front_len(element);
     let nodes = element.nodes();
     if nodes.is_empty() {
         return tag_front.saturating_add(2);
@@ -56,7 +58,7 @@ fn node_len(node: &Node) -> usize
 {
     match node {
         Node::Elem(element) => printed_len(element),
-        Node::Chars(text) => text_len(text.as_str().as_bytes()),
+        Node::Chars(text) => escaped_text_len(text.as_str().as_bytes()),
         Node::Comment(text) => comment_len(text),
     }
 }

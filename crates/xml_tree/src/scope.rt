@@ -2,7 +2,8 @@
 ghost use Rattle.std.specs.Prelude.{◌≡◌, ◌<◌, ◌++◌, [], ◌∷◌, length, map, option_map, chars, IfOk};
 ghost use Rattle.std.specs.Option.{option_copied};
 ghost use Rattle.xml_tree.specs.Tree.{at};
-ghost use Rattle.xml_names.specs.Scopes.{bindings_in, bound, declared_uri, joined, some_text};
+ghost use Rattle.xml_names.specs.Scopes.{in_scope_bindings, bound_uri, declared_uri, scope_decls};
+ghost use Rattle.xml_names.specs.Scopes.{non_empty_uri};
 ghost use Rattle.xml_names.specs.Scopes.{xml_uri};
 ghost use Rattle.xml_tree.specs.TreeScopes.{scope_at};
 
@@ -10,7 +11,9 @@ use crate::path::Path;
 use crate::tree::Element;
 use std::alloc::{AllocError, Global};
 use std::marker::Model;
-use xml_names::{Decl, Text, bindings_in, is_xml, nearest, some_text, xml_uri};
+use xml_names::{
+    Decl, Text, in_scope_bindings, is_xml_prefix, nearest_uri, non_empty_uri, xml_uri,
+};
 
 /// The greatest number of lists of declarations in a scope.
 pub const SCOPE_LIMIT: usize = 67;
@@ -26,7 +29,7 @@ pub struct Scope<'a> {
 impl<'a> Model for Scope<'a> {
     ghost use Rattle.std.specs.Prelude.{◌≤◌, List, map, take};
     ghost use Rattle.std.specs.Coded.{coded_list};
-    ghost use Rattle.xml_names.specs.inner.Codes.{decls_code};
+    ghost use Rattle.xml_names.specs.inner.ValueCodes.{decls_code};
     ghost use Rattle.xml_names.specs.declared.names.Decl.{Decl};
     ghost use Rattle.xml_tree.specs.declared.scope.TheConstants.{SCOPE_LIMIT};
 
@@ -108,27 +111,28 @@ impl<'a> Scope<'a> {
     /// # Errors
     /// `NoMemory` when out of memory.
     pub fn bindings(&self, alloc: Global) -> Result<Vec<Decl>, AllocError>
-        ensures ok { IfOk result (λ made. made.items ≡ bindings_in self.now) }
+        ensures ok { IfOk result (λ made. made.items ≡ in_scope_bindings self.now) }
     {
-        bindings_in(alloc, &self.lists[..self.len])
+        in_scope_bindings(alloc, &self.lists[..self.len])
     }
 
     /// The URI that a prefix is bound to; the empty prefix is the default namespace. Does not
     /// allocate.
     pub fn resolve(&self, prefix: &str) -> Option<&'a str>
         ensures resolves_as_bound { option_map (λ uri. chars uri.now) result
-            ≡ bound self.now (chars prefix.now) }
+            ≡ bound_uri self.now (chars prefix.now) }
     {
-        if is_xml(prefix) {
+        if is_xml_prefix(prefix) {
             return Some(xml_uri());
         }
-        some_text(self.nearest(prefix))
+        non_empty_uri(self.nearest_uri(prefix))
     }
 
     // The URI in the nearest declaration of a prefix.
-    pub(crate) fn nearest(&self, prefix: &str) -> Option<&'a Text>
-        ensures exact { option_copied result ≡ declared_uri (joined self.now) (chars prefix.now) }
+    pub(crate) fn nearest_uri(&self, prefix: &str) -> Option<&'a Text>
+        ensures exact { option_copied result
+            ≡ declared_uri (scope_decls self.now) (chars prefix.now) }
     {
-        nearest(&self.lists[..self.len], prefix)
+        nearest_uri(&self.lists[..self.len], prefix)
     }
 }

@@ -6,7 +6,7 @@ ghost use Rattle.xml_tree.specs.Tree.{height};
 
 use crate::attrs;
 use crate::nodes::{
-    child_in, child_of, push_comment_node, push_elem_node, push_own_text, push_text,
+    child_mut, find_child, push_comment_node, push_elem_node, push_owned_text, push_text,
 };
 use crate::path::Path;
 use std::alloc::{AllocError, Global};
@@ -36,17 +36,17 @@ pub struct Element {
 
 impl Model for Element {
     ghost use Rattle.xml_tree.specs.Tree.{Tree, tree_of, height};
-    ghost use Rattle.xml_tree.specs.inner.Codes.{tree_code};
+    ghost use Rattle.xml_tree.specs.inner.TreeCodes.{tree_code};
 
     ghost Value = { Tree };
 
     ghost coded = { tree_code };
 
-    ghost use Rattle.xml_tree.specs.Nodes.{content_of, AreNormal};
+    ghost use Rattle.xml_tree.specs.Nodes.{content_of, AreNormalized};
 
     ghost view = { λ e. tree_of e.name e.decls.items e.attrs.items (content_of e.nodes.items) };
 
-    ghost invariant = { λ e. AreNormal e.nodes.items };
+    ghost invariant = { λ e. AreNormalized e.nodes.items };
 
     ghost size = { height };
 
@@ -136,7 +136,7 @@ impl Element {
             (self.new ≡ record self.old { content = with_text text self.old.content }) }
         ensures err_unchanged { OnErr result (self.new ≡ self.old) }
     {
-        push_own_text(&mut self.nodes, text)
+        push_owned_text(&mut self.nodes, text)
     }
 
     /// Appends a comment. Its text consists of Chars other than CR, has no `--`, and doesn't end
@@ -158,7 +158,7 @@ impl Element {
 impl Element {
     ghost use Rattle.std.specs.Prelude.{All};
     ghost use Rattle.xml_tree.specs.Tree.{child_elements_of};
-    ghost use Rattle.xml_tree.specs.Nodes.{nodes_of, content_of, node_height, AreNormal};
+    ghost use Rattle.xml_tree.specs.Nodes.{nodes_of, content_of, node_height, AreNormalized};
 
     /// The name.
     pub fn name(&self) -> &Name
@@ -187,7 +187,7 @@ impl Element {
         ensures content_nodes { result.now ≡ nodes_of self.now.content }
         ensures nodes_content { content_of result.now ≡ self.now.content }
         ensures is_no_higher { All (λ node. node_height node < height self.now) result.now }
-        ensures nodes_are_normal { AreNormal result.now }
+        ensures nodes_are_normal { AreNormalized result.now }
     {
         &self.nodes
     }
@@ -196,20 +196,20 @@ impl Element {
     pub fn child_element(&self, child: usize) -> Option<&Element>
         ensures exact { option_copied result ≡ slice_get (child_elements_of self.now) child }
     {
-        child_of(&self.nodes, child)
+        find_child(&self.nodes, child)
     }
 }
 
 /// Moving its nodes out and in. These calls do not allocate.
 impl Element {
     ghost use Rattle.xml_tree.specs.Tree.{last};
-    ghost use Rattle.xml_tree.specs.Nodes.{content_of, AreNormal};
+    ghost use Rattle.xml_tree.specs.Nodes.{content_of, AreNormalized};
 
     /// Takes the nodes out of the element, which then has none.
     #[inline(always)]
     pub fn take_nodes(&mut self) -> Vec<Node>
         ensures nodes_content { content_of result.items ≡ self.old.content }
-        ensures nodes_are_normal { AreNormal result.items }
+        ensures nodes_are_normal { AreNormalized result.items }
         ensures leaves_none { self.new ≡ record self.old { content = last [] } }
     {
         let none = Vec::new(*self.nodes.allocator());
@@ -220,7 +220,7 @@ impl Element {
     #[inline(always)]
     pub fn put_nodes(&mut self, nodes: Vec<Node>)
         requires empty { self.old.content ≡ last [] }
-        requires normal { AreNormal nodes.items }
+        requires normal { AreNormalized nodes.items }
         ensures exact { self.new ≡ record self.old { content = content_of nodes.items } }
     {
         let none = mem::replace(&mut self.nodes, nodes);
@@ -259,7 +259,7 @@ impl Element {
         match path.split_first() {
             None => edit(self),
             Some((first, rest)) => {
-                let child_element = child_in(&mut self.nodes, *first);
+                let child_element = child_mut(&mut self.nodes, *first);
                 child_element.edit_below(rest, edit)
             }
         }
@@ -271,7 +271,7 @@ impl Node {
     ghost use Rattle.std.specs.Borrow.{sem};
     ghost use Rattle.xml_tree.specs.inner.NodeBorrows.{LendsElem};
     ghost use Rattle.xml_tree.specs.Nodes.{elem_of, is_text, text_of};
-    ghost use Rattle.xml_tree.specs.inner.Nodes.{node_with};
+    ghost use Rattle.xml_tree.specs.inner.Nodes.{with_text_appended};
 
     pub(crate) fn elem_mut(&mut self) -> &mut Element
         requires { IsSome (elem_of self.old) }
@@ -322,7 +322,8 @@ impl Node {
     // Appends to the text; the node is one.
     pub(crate) fn push_str(&mut self, text: &str) -> Result<(), AllocError>
         requires { is_text self.old ≡ true }
-        ensures appends_chars { OnOk result (self.new ≡ node_with (chars text.now) self.old) }
+        ensures appends_chars { OnOk result
+            (self.new ≡ with_text_appended (chars text.now) self.old) }
         ensures err_unchanged { OnErr result (self.new ≡ self.old) }
     {
         match self {

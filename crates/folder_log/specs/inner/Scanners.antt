@@ -1,11 +1,11 @@
 -- What the scanner of a file has read.
 use Rattle.std.specs.Prelude.{◌≡◌, ℕ, [], ◌∷◌, Bool, true, false, if◌then◌else◌, None, Some}
-use Rattle.log_disk.specs.Folders.{History as FolderMoments}
-use Rattle.change_log.specs.Contents.{next_number}
-use Rattle.change_log.specs.Items.{Item, Scan, scan_item}
-use Rattle.change_log.specs.Moments.{History, opened_on}
-use Rattle.folder_log.specs.Logs.{LogParts}
-use Rattle.folder_log.specs.declared.opening.Scanner.{Scanner}
+use Rattle.log_disk.specs.FolderStates.{History as FolderMoments}
+use Rattle.change_log.specs.LogContents.{next_number}
+use Rattle.change_log.specs.LogItems.{Item, Scan, scan_item}
+use Rattle.change_log.specs.LogHistories.{History, history_from}
+use Rattle.folder_log.specs.FolderLogs.{LogParts}
+use Rattle.folder_log.specs.declared.log_opening.Scanner.{Scanner}
 
 abbrev pub scan_of : Scanner → Scan
 scan_of scanner = record {
@@ -14,13 +14,13 @@ scan_of scanner = record {
 }
 
 -- the history is that of a log that was just opened, and the next number is known
-pub record Agrees (scanner : Scanner) : Type 0 where
-  pub history : scanner.history.log ≡ opened_on scanner.history.log.now.kept
+pub record AgreesWithHistory (scanner : Scanner) : Type 0 where
+  pub history : scanner.history.log ≡ history_from scanner.history.log.now.kept
   pub next : scanner.next ≡ next_number scanner.history.log.now.kept
 
 -- the item was read, or doesn't come next
-abbrev pub Scans : Scanner → Item → Bool → Scanner → Type 0
-Scans old item result new =
+abbrev pub ScansItem : Scanner → Item → Bool → Scanner → Type 0
+ScansItem old item result new =
     scan_item (scan_of old) item ≡ (if result then Some (scan_of new) else None)
 
 -- a log that was just opened, in which no snapshot was written

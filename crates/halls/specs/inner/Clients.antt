@@ -5,16 +5,16 @@ use Rattle.halls.specs.declared.hall.ConnectionId.{ConnectionId}
 use Rattle.halls.specs.declared.hall.Progress.{Progress}
 use Rattle.halls.specs.declared.hall.Progress.TheVariants.{Moved, Blocked}
 use Rattle.halls.specs.HallState.{HallState, connection_at}
-use Rattle.halls.specs.Memory.{ClientState, new_client}
-use Rattle.halls.specs.Reports.{IsOpen, MayRead}
+use Rattle.halls.specs.MemoryHalls.{ClientState, new_client}
+use Rattle.halls.specs.CallResults.{IsOpen, MayRead}
 
 -- the client of this number
 abbrev pub client_at : List ClientState → ℕ → ClientState
 client_at clients n = slice_index_or clients n (new_client [])
 
 -- the client connects, at this place
-abbrev pub connected_at : ℕ → ClientState → ClientState
-connected_at place client = record client { taken = []; place = place; closed = false }
+abbrev pub connected_client : ℕ → ClientState → ClientState
+connected_client place client = record client { taken = []; place = place; closed = false }
 
 -- the client after a read of its connection
 abbrev pub client_after_read : {E : Type 0} → Result Progress E → ClientState → ClientState
@@ -51,15 +51,15 @@ pub record WritesClient {E : Type 0} (old new : List ClientState) (n : ℕ)
   pub changed : new ≡ with_client old n (client_after_write piece result)
 
 -- the connection of this number, if it is open; None where it is closed or hasn't begun
-abbrev pub OpenOrNot : HallState → ℕ → Option ConnectionId → Type 0
-OpenOrNot hall n (Some id) = IsOpen hall id
-OpenOrNot hall n None = n < length hall.connections → (connection_at hall n).closed ≡ true
+abbrev pub IsOpenOrNone : HallState → ℕ → Option ConnectionId → Type 0
+IsOpenOrNone hall n (Some id) = IsOpen hall id
+IsOpenOrNone hall n None = n < length hall.connections → (connection_at hall n).closed ≡ true
 
 -- the connections from one number up to another are closed
 abbrev pub AreClosed : HallState → ℕ → ℕ → Type 0
 AreClosed hall from to = (n : ℕ) → from ≤ n → n < to → (connection_at hall n).closed ≡ true
 
 -- an open connection, or none where all from this number on are closed
-abbrev pub OpenFrom : HallState → ℕ → Option ConnectionId → Type 0
-OpenFrom hall from (Some id) = IsOpen hall id
-OpenFrom hall from None = AreClosed hall from (length hall.connections)
+abbrev pub IsOpenFrom : HallState → ℕ → Option ConnectionId → Type 0
+IsOpenFrom hall from (Some id) = IsOpen hall id
+IsOpenFrom hall from None = AreClosed hall from (length hall.connections)

@@ -11,5 +11,5 @@ place_code =
     code_by (List ℕ × List ℕ) (coded× (coded_list coded_ℕ) (coded_list coded_ℕ))
     (λ p. (p.name, p.path)) (λ p. record { name = p.0; path = p.1 }) (λ _. refl)
 
-abbrev pub place_fed : Place → HashWrites
-place_fed p = fed.str (encode_utf8_all p.name) ++ fed.slice fed.usize p.path
+abbrev pub place_hash_input : Place → HashWrites
+place_hash_input p = fed.str (encode_utf8_all p.name) ++ fed.slice fed.usize p.path

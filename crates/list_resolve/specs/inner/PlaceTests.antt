@@ -5,8 +5,8 @@ use Rattle.std.specs.Cmp.{IsEquivalence, and_equiv, on_equiv}
 use Rattle.std.specs.Cmp.Lexicographic.{bytes_decides, nat_list_eq_equiv}
 use Rattle.std.specs.Str.{bytes_eq}
 use Rattle.list_resolve.specs.declared.document_place.Place.{Place}
-use Rattle.list_resolve.specs.Places.{same_place}
-use Rattle.list_resolve.specs.inner.PlaceCodes.{place_fed}
+use Rattle.list_resolve.specs.ElementPlaces.{same_place}
+use Rattle.list_resolve.specs.inner.PlaceCodes.{place_hash_input}
 
 pub places_equiv : IsEquivalence same_place
 places_equiv =
@@ -22,5 +22,5 @@ place_exact a b h =
     λ i. record { name = name i; path = path i }
 
 -- so a hasher is fed the same for both
-pub places_fed : (a b : Place) → IsTrue (same_place a b) → place_fed a ≡ place_fed b
-places_fed a b h = ap place_fed (place_exact a b h)
+pub places_fed : (a b : Place) → IsTrue (same_place a b) → place_hash_input a ≡ place_hash_input b
+places_fed a b h = ap place_hash_input (place_exact a b h)

@@ -7,12 +7,12 @@ use Rattle.list_resolve.specs.declared.scoped_element.ScopedElement.{ScopedEleme
 use Rattle.list_resolve.specs.ScopedElements.{ScopedElement}
 use Rattle.list_resolve.specs.Resolution.{ResolutionContext, ResolvedReference}
 
-abbrev pub scoped_element_in : CodeSpot → ScopedElement
-scoped_element_in s = record { kind = s.kind; scope = s.scope; element = s.element.now }
+abbrev pub scoped_element_view : CodeSpot → ScopedElement
+scoped_element_view s = record { kind = s.kind; scope = s.scope; element = s.element.now }
 
-abbrev pub resolved_in : CodeLead → ResolvedReference
-resolved_in l = record { place = l.place; scoped_element = scoped_element_in l.scoped_element }
+abbrev pub resolved_view : CodeLead → ResolvedReference
+resolved_view l = record { place = l.place; scoped_element = scoped_element_view l.scoped_element }
 
-abbrev pub context_in : CodeGround → ResolutionContext
-context_in g =
+abbrev pub context_view : CodeGround → ResolutionContext
+context_view g =
     record { documents = g.store.now.content.documents; root = g.root.now; home = g.home.now }

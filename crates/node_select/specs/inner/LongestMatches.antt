@@ -4,13 +4,13 @@ use Rattle.xml_tree.specs.Tree.{Tree}
 use Rattle.xml_names.specs.declared.names.Decl.{Decl}
 use Rattle.node_select.specs.declared.descent.Reached.{Reached}
 use Rattle.node_select.specs.declared.selector.Step.{Step}
-use Rattle.node_select.specs.Selection.{depth_among, selected_among}
+use Rattle.node_select.specs.Selection.{matched_depth, selected_path_among}
 
 -- from these children of the element at `base` on, `reached.steps` first steps select one element
 -- after the other, and lead to `reached.path`
 pub record ReachesBelow (c : List (List Decl)) (child_elements : List Tree) (steps : List Step)
     (base : List ℕ) (reached : Reached) : Type 0 where
-  pub counted : reached.steps ≡ depth_among c child_elements steps
+  pub counted : reached.steps ≡ matched_depth c child_elements steps
   pub leads : option_map (λ q. base ++ q)
-      (selected_among c child_elements (take reached.steps steps))
+      (selected_path_among c child_elements (take reached.steps steps))
       ≡ Some reached.path

@@ -4,10 +4,10 @@ use Rattle.std.specs.Prelude.{◌≡◌, ℕ, Option, None, Some, Result, Ok, Er
 use Rattle.node_select.specs.declared.name_resolution.Unresolved.{Unresolved}
 use Rattle.node_select.specs.declared.name_resolution.Unresolved.TheVariants.{Prefix, Memory}
 
-abbrev pub Fails : Option ℕ → Unresolved → Type 0
-Fails unbound (Prefix n) = unbound ≡ Some n
-Fails unbound Memory = Unit {0}
+abbrev pub IsUnresolvedAt : Option ℕ → Unresolved → Type 0
+IsUnresolvedAt unbound (Prefix n) = unbound ≡ Some n
+IsUnresolvedAt unbound Memory = Unit {0}
 
-abbrev pub Means : {A : Type 0} → Option ℕ → A → Result A Unresolved → Type 0
-Means unbound value (Ok v) = (unbound ≡ None) × (v ≡ value)
-Means unbound value (Err why) = Fails unbound why
+abbrev pub IsResolvedAs : {A : Type 0} → Option ℕ → A → Result A Unresolved → Type 0
+IsResolvedAs unbound value (Ok v) = (unbound ≡ None) × (v ≡ value)
+IsResolvedAs unbound value (Err why) = IsUnresolvedAt unbound why

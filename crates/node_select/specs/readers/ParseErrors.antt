@@ -8,18 +8,18 @@ use Rattle.node_select.specs.declared.name_resolution.Unresolved.{Unresolved}
 use Rattle.node_select.specs.declared.name_resolution.Unresolved.TheVariants as troubles
 use Rattle.node_select.specs.declared.fault.SelectorFault.{SelectorFault}
 use Rattle.node_select.specs.declared.fault.SelectorFault.TheVariants as faults
-use Rattle.node_select.specs.Faults.{byte_of}
+use Rattle.node_select.specs.Faults.{byte_offset}
 
-abbrev pub Tells : List ℕ → ParseError → ReadError SelectorFault → Type 0
-Tells text (stops.Syntax rest) error =
+abbrev pub IsErrorOfStop : List ℕ → ParseError → ReadError SelectorFault → Type 0
+IsErrorOfStop text (stops.Syntax rest) error =
     error
-    ≡ Fault (faults.BadSelector (byte_of text (length (chars text) - length (chars rest.now))))
-Tells text (stops.Faulty kind rest) error =
+    ≡ Fault (faults.BadSelector (byte_offset text (length (chars text) - length (chars rest.now))))
+IsErrorOfStop text (stops.Faulty kind rest) error =
     error
-    ≡ Fault (faults.BadSelector (byte_of text (length (chars text) - length (chars rest.now))))
-Tells text stops.Memory error = error ≡ NoMemory
+    ≡ Fault (faults.BadSelector (byte_offset text (length (chars text) - length (chars rest.now))))
+IsErrorOfStop text stops.Memory error = error ≡ NoMemory
 
-abbrev pub TellsUnresolved : List ℕ → Unresolved → ReadError SelectorFault → Type 0
-TellsUnresolved text (troubles.Prefix n) error =
-    error ≡ Fault (faults.UnboundPrefix (byte_of text n))
-TellsUnresolved text troubles.Memory error = error ≡ NoMemory
+abbrev pub IsErrorOfUnresolved : List ℕ → Unresolved → ReadError SelectorFault → Type 0
+IsErrorOfUnresolved text (troubles.Prefix n) error =
+    error ≡ Fault (faults.UnboundPrefix (byte_offset text n))
+IsErrorOfUnresolved text troubles.Memory error = error ≡ NoMemory

@@ -14,23 +14,23 @@ use Rattle.node_select.specs.declared.selector.PatchEnd.TheVariants as patch_end
 use Rattle.node_select.specs.declared.selector.PatchSelector.{PatchSelector}
 use Rattle.node_select.specs.Names.{name_uri, attr_uri}
 
-abbrev pub step_of : (NameTest × Option ℕ) × Option AttrTest → Step
-step_of x = record { name = x.0.0; position = x.0.1; test = x.1 }
+abbrev pub step_from_parts : (NameTest × Option ℕ) × Option AttrTest → Step
+step_from_parts x = record { name = x.0.0; position = x.0.1; test = x.1 }
 
-abbrev pub first_step_of : {A : Type 0} → A × List A → List A
-first_step_of x = x.0 ∷ x.1
+abbrev pub steps_from_parts : {A : Type 0} → A × List A → List A
+steps_from_parts x = x.0 ∷ x.1
 
 abbrev pub end_or_element : Option End → End
 end_or_element o = unwrap_or o Element
 
-abbrev pub selector_of : List Step × End → Selector
-selector_of x = record { steps = x.0; end = x.1 }
+abbrev pub selector_from_parts : List Step × End → Selector
+selector_from_parts x = record { steps = x.0; end = x.1 }
 
 abbrev pub patch_end_or_element : Option PatchEnd → PatchEnd
 patch_end_or_element o = unwrap_or o patch_ends.Element
 
-abbrev pub patch_selector_of : List Step × PatchEnd → PatchSelector
-patch_selector_of x = record { steps = x.0; end = x.1 }
+abbrev pub patch_selector_from_parts : List Step × PatchEnd → PatchSelector
+patch_selector_from_parts x = record { steps = x.0; end = x.1 }
 
 module _ (bindings : List Decl) (default : List ℕ) where
   abbrev pub element_test : Name → NameTest

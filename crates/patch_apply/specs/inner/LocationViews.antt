@@ -7,16 +7,16 @@ use Rattle.patch_rules.specs.PatchOperations as words
 use Rattle.patch_apply.specs.declared.locations.Location.{Location}
 use Rattle.patch_apply.specs.declared.locations.Location.TheVariants.{AtElement, AtAttr, AtText}
 
-abbrev pub path_in : Location → List ℕ
-path_in (AtElement p) = p
-path_in (AtAttr p i) = p
-path_in (AtText p i) = p
+abbrev pub path_of_location : Location → List ℕ
+path_of_location (AtElement p) = p
+path_of_location (AtAttr p i) = p
+path_of_location (AtText p i) = p
 
 -- the location is in the tree: the element, the attribute of the number, or the node of the number
-abbrev pub IsThere : Tree → Location → Type 0
-IsThere t (AtElement p) = IsSome (at p t)
-IsThere t (AtAttr p i) = IsSomeAnd (at p t) (λ e. i < length e.attrs)
-IsThere t (AtText p i) = IsSomeAnd (at p t) (λ e. i < length (nodes_of e.content))
+abbrev pub LocationExists : Tree → Location → Type 0
+LocationExists t (AtElement p) = IsSome (at p t)
+LocationExists t (AtAttr p i) = IsSomeAnd (at p t) (λ e. i < length e.attrs)
+LocationExists t (AtText p i) = IsSomeAnd (at p t) (λ e. i < length (nodes_of e.content))
 
 -- the same location: the attribute of the number is the first that passes the test
 abbrev pub IsSpot : Tree → Location → words.Location → Type 0
@@ -32,6 +32,7 @@ IsSpot t (AtText p i) (words.AtAttr q f) = ⊥
 IsSpot t (AtText p i) (words.AtText q j) = (p ≡ q) × (i ≡ j)
 
 -- the stated location, or none
-abbrev pub Spots : Tree → Option words.Location → Option Location → Type 0
-Spots t stated None = stated ≡ None
-Spots t stated (Some s) = IsThere t s × ((w : words.Location) × (stated ≡ Some w) × IsSpot t s w)
+abbrev pub LocatesAs : Tree → Option words.Location → Option Location → Type 0
+LocatesAs t stated None = stated ≡ None
+LocatesAs t stated (Some s) =
+    LocationExists t s × ((w : words.Location) × (stated ≡ Some w) × IsSpot t s w)

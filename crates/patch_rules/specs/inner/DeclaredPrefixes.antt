@@ -4,11 +4,12 @@ use Rattle.std.specs.Prelude.{ℕ, List, [], ◌++◌, map}
 use Rattle.xml_tree.specs.Tree.{Content, last, more, comment_node}
 use Rattle.xml_names.specs.declared.names.Decl.{Decl}
 
-abbrev pub prefixes : List Decl → List (List ℕ)
-prefixes ds = map (λ d. d.prefix) ds
+abbrev pub declared_prefixes : List Decl → List (List ℕ)
+declared_prefixes ds = map (λ d. d.prefix) ds
 
 -- the prefixes that all elements of a content declare
-abbrev pub prefixes_in : Content → List (List ℕ)
-prefixes_in (last t) = []
-prefixes_in (more t n ds ats c rest) = prefixes ds ++ (prefixes_in c ++ prefixes_in rest)
-prefixes_in (comment_node t x rest) = prefixes_in rest
+abbrev pub content_prefixes : Content → List (List ℕ)
+content_prefixes (last t) = []
+content_prefixes (more t n ds ats c rest) =
+    declared_prefixes ds ++ (content_prefixes c ++ content_prefixes rest)
+content_prefixes (comment_node t x rest) = content_prefixes rest

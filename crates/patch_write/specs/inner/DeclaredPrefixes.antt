@@ -14,41 +14,42 @@ use Rattle.edit_ops.specs.declared.change.Change.TheVariants.{CreateDocument, In
 use Rattle.edit_ops.specs.declared.change.Change.TheVariants.{Remove, SetAttr, DropAttr}
 use Rattle.edit_ops.specs.declared.change.Change.TheVariants.{RemoveDocument}
 use Rattle.edit_ops.specs.Notes.{Note}
-use Rattle.patch_rules.specs.inner.DeclaredPrefixes.{prefixes, prefixes_in}
+use Rattle.patch_rules.specs.inner.DeclaredPrefixes.{declared_prefixes, content_prefixes}
 
 -- ---- as a list
 
 -- the prefixes that a node declares
-abbrev pub prefixes_at : Node → List (List ℕ)
-prefixes_at (Elem e) = prefixes e.decls ++ prefixes_in e.content
-prefixes_at (Chars t) = []
-prefixes_at (Comment x) = []
+abbrev pub node_prefixes : Node → List (List ℕ)
+node_prefixes (Elem e) = declared_prefixes e.decls ++ content_prefixes e.content
+node_prefixes (Chars t) = []
+node_prefixes (Comment x) = []
 
 -- the prefixes that the inserted element of a change declares
-abbrev pub prefixes_put : Change → List (List ℕ)
-prefixes_put (CreateDocument root) = []
-prefixes_put (Insert parent gap e) = prefixes e.decls ++ prefixes_in e.content
-prefixes_put (Replace p e) = prefixes e.decls ++ prefixes_in e.content
-prefixes_put (Remove p) = []
-prefixes_put (SetAttr p name value) = []
-prefixes_put (DropAttr p name) = []
-prefixes_put RemoveDocument = []
+abbrev pub inserted_prefixes : Change → List (List ℕ)
+inserted_prefixes (CreateDocument root) = []
+inserted_prefixes (Insert parent gap e) = declared_prefixes e.decls ++ content_prefixes e.content
+inserted_prefixes (Replace p e) = declared_prefixes e.decls ++ content_prefixes e.content
+inserted_prefixes (Remove p) = []
+inserted_prefixes (SetAttr p name value) = []
+inserted_prefixes (DropAttr p name) = []
+inserted_prefixes RemoveDocument = []
 
 -- the prefixes that the operation of a change record declares
-abbrev pub prefixes_of_record : Note → List (List ℕ)
-prefixes_of_record n = prefixes n.bindings ++ prefixes_put n.change
+abbrev pub record_prefixes : Note → List (List ℕ)
+record_prefixes n = declared_prefixes n.bindings ++ inserted_prefixes n.change
 
 -- ---- as a set of texts
 
 -- the order of texts, by code points
-abbrev pub by_text : List ℕ → List ℕ → Ordering
-by_text = slice_cmp nat_cmp
+abbrev pub text_order : List ℕ → List ℕ → Ordering
+text_order = slice_cmp nat_cmp
 
 -- a set has exactly these prefixes
-abbrev pub Holds : List (List ℕ) → BTreeSet (List ℕ) → Type 0
-Holds ps seen = (p : List ℕ) → contains by_text seen p ≡ is_member bytes_eq ps p
+abbrev pub HasExactlyPrefixes : List (List ℕ) → BTreeSet (List ℕ) → Type 0
+HasExactlyPrefixes ps seen = (p : List ℕ) → contains text_order seen p ≡ is_member bytes_eq ps p
 
 -- the new set has the prefixes of the old one and these, and no others
-abbrev pub Gains : List (List ℕ) → BTreeSet (List ℕ) → BTreeSet (List ℕ) → Type 0
-Gains ps old new =
-    (p : List ℕ) → contains by_text new p ≡ (is_member bytes_eq ps p || contains by_text old p)
+abbrev pub GainsPrefixes : List (List ℕ) → BTreeSet (List ℕ) → BTreeSet (List ℕ) → Type 0
+GainsPrefixes ps old new =
+    (p : List ℕ)
+    → contains text_order new p ≡ (is_member bytes_eq ps p || contains text_order old p)

@@ -2,7 +2,7 @@
 use Rattle.std.specs.Prelude.{ℕ, List, []}
 use Rattle.xml_tree.specs.Tree.{Tree}
 use Rattle.edit_ops.specs.Notes.{Note}
-use Rattle.patch_rules.specs.Notices.{all_at_once, one_by_one, tags_alone}
+use Rattle.patch_rules.specs.Notices.{aggregate_documents, patching_documents, tags_documents}
 use Rattle.xcap_uri.specs.declared.target.Mode.{Mode}
 use Rattle.xcap_uri.specs.declared.target.Mode.TheVariants.{NoPatching, XcapPatching, Aggregate}
 
@@ -13,7 +13,7 @@ reported_notes XcapPatching ns = ns
 reported_notes Aggregate ns = ns
 
 -- its `document` elements
-abbrev pub documents_of : Mode → List ℕ → List ℕ → ℕ → List Note → List Tree
-documents_of NoPatching prefix sel from ns = tags_alone prefix sel from ns
-documents_of XcapPatching prefix sel from ns = one_by_one prefix sel ns
-documents_of Aggregate prefix sel from ns = all_at_once prefix sel from ns
+abbrev pub mode_documents : Mode → List ℕ → List ℕ → ℕ → List Note → List Tree
+mode_documents NoPatching prefix sel from ns = tags_documents prefix sel from ns
+mode_documents XcapPatching prefix sel from ns = patching_documents prefix sel ns
+mode_documents Aggregate prefix sel from ns = aggregate_documents prefix sel from ns

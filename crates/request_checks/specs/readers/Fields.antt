@@ -5,7 +5,7 @@ use Rattle.std.specs.Prelude.{drop, Option, None, Some, option_map, codes}
 use Rattle.std.specs.List.{take_while, prefix_len}
 use Rattle.std.specs.Str.{bytes_eq}
 use Rattle.request_checks.specs.declared.entity_tags.EntityTag.{EntityTag}
-use Rattle.request_checks.specs.Tags.{is_tag_byte, comma_joined, is_ows_byte}
+use Rattle.request_checks.specs.Tags.{is_tag_byte, join_with_commas, is_ows_byte}
 use Rattle.request_checks.specs.Fields.{FieldValue, Missing, Star, Tags, Preconditions}
 
 -- ---- one tag
@@ -60,12 +60,12 @@ first_tag (c ∷ cs) =
 
 -- the state of a reader: before the tag of a part, after `W`, after `W/`, between quotes, after
 -- the tag
-pub data Place : Type 0 where
-  Before : Place
-  Letter : Place
-  Slash : Place
-  Inside : Place
-  Behind : Place
+pub data ListState : Type 0 where
+  Before : ListState
+  Letter : ListState
+  Slash : ListState
+  Inside : ListState
+  Behind : ListState
 
 -- these tags and the tags of the rest, if the rest can be read
 abbrev pub with_tags : List EntityTag → Option (List EntityTag) → Option (List EntityTag)
@@ -73,7 +73,7 @@ with_tags tags more = option_map (λ ts. tags ++ ts) more
 
 -- the tags of the rest of a list, if the rest can be read: a comma (44), a quote (34), `W` (87) or
 -- `/` (47) changes the state
-abbrev pub tags_from : Place → List ℕ → Option (List EntityTag)
+abbrev pub tags_from : ListState → List ℕ → Option (List EntityTag)
 tags_from Before [] = Some []
 tags_from Before (c ∷ cs) =
     if is_ows_byte c then tags_from Before cs
@@ -110,7 +110,7 @@ text_value text =
 -- the reading of a field's lines, if they can be read
 abbrev pub field_value : List (List ℕ) → Option FieldValue
 field_value [] = Some Missing
-field_value (line ∷ lines) = text_value (comma_joined (line ∷ lines))
+field_value (line ∷ lines) = text_value (join_with_commas (line ∷ lines))
 
 -- ---- both fields
 

@@ -11,8 +11,8 @@ abbrev pub changes_since_of : Option (List Note) → ChangesSince
 changes_since_of found = option_map_or ReportedChanges found Unknown
 
 -- by the stored document, if there is one
-abbrev pub held_since : ℕ → Option StoredDocument → ChangesSince
-held_since tag found =
+abbrev pub stored_changes_since : ℕ → Option StoredDocument → ChangesSince
+stored_changes_since tag found =
     option_map_or
     (λ h. if h.tag == tag then ReportedChanges [] else changes_since_of (notes_from tag h.notes))
     found Gone

@@ -1,7 +1,7 @@
 -- The print of a document, as it is cached with the tree.
 use Rattle.std.specs.Prelude.{◌≡◌, ℕ, List, Option, None, Some, encode_utf8_all}
 use Rattle.edit_ops.specs.declared.change.Change.{Change}
-use Rattle.edit_ops.specs.InsertedElements.{BringsElement, inserted_part}
+use Rattle.edit_ops.specs.InsertedElements.{InsertsElement, inserted_element}
 use Rattle.xml_tree.specs.Tree.{Tree}
 use Rattle.xml_tree.specs.Print.{document_print}
 
@@ -15,4 +15,4 @@ IsPrintOf t (Some bytes) = bytes ≡ encode_utf8_all (document_print t)
 abbrev pub IsInsertedPrint : Change → Option (List ℕ) → Type 0
 IsInsertedPrint change None = Unit {0}
 IsInsertedPrint change (Some bytes) =
-    BringsElement change × (bytes ≡ encode_utf8_all (document_print (inserted_part change)))
+    InsertsElement change × (bytes ≡ encode_utf8_all (document_print (inserted_element change)))

@@ -4,11 +4,11 @@ use Rattle.xml_tree.specs.Tree.{Tree}
 use Rattle.store_core.specs.declared.shared_root.Root.{Root}
 use Rattle.store_core.specs.declared.shared_root.Root.TheVariants.{Own, Noted}
 
-abbrev pub root_in : Root → Tree
-root_in (Own root) = root
-root_in (Noted root) = root
+abbrev pub root_view : Root → Tree
+root_view (Own root) = root
+root_view (Noted root) = root
 
 -- nobody shares it
-abbrev pub is_own : Root → Bool
-is_own (Own root) = true
-is_own (Noted root) = false
+abbrev pub is_unshared : Root → Bool
+is_unshared (Own root) = true
+is_unshared (Noted root) = false

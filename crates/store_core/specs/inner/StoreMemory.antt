@@ -12,48 +12,48 @@ use Rattle.usage_docs.specs.Services.{document_len}
 use Rattle.doc_names.specs.declared.doc_id.DocId.{DocId}
 use Rattle.edit_ops.specs.Notes.{Note}
 use Rattle.store_core.specs.declared.entry.Entry.{Entry}
-use Rattle.store_core.specs.State.{State, retained}
+use Rattle.store_core.specs.State.{State, retained_notes}
 use Rattle.store_core.specs.Contents.{StoredDocument, Represents, StoreContents}
-use Rattle.store_core.specs.ValidStates.{AreDistinct, IsValidState, addresses_in}
+use Rattle.store_core.specs.ValidStates.{AreDistinct, IsValidState, document_addresses}
 
 -- ---- its documents
 
 -- a document by its entry
-abbrev pub stored_in : DocId × Entry → StoredDocument
-stored_in e = record { id = e.0; tag = e.1.tag; tree = e.1.tree.root; notes = e.1.notes }
+abbrev pub stored_view : DocId × Entry → StoredDocument
+stored_view e = record { id = e.0; tag = e.1.tag; tree = e.1.tree.root; notes = e.1.notes }
 
 -- all documents, and the number after the last one given
-abbrev pub content_in : List (DocId × Entry) → ℕ → StoreContents
-content_in es last = record { documents = map stored_in es; next = last + 1 }
+abbrev pub contents_view : List (DocId × Entry) → ℕ → StoreContents
+contents_view es last = record { documents = map stored_view es; next = last + 1 }
 
-abbrev pub name_in : DocId × Entry → DocId
-name_in e = e.0
+abbrev pub entry_id : DocId × Entry → DocId
+entry_id e = e.0
 
-abbrev pub uris_in : DocId × Entry → List (List ℕ)
-uris_in e = addresses_in e.0.auid e.1.tree.root
+abbrev pub entry_addresses : DocId × Entry → List (List ℕ)
+entry_addresses e = document_addresses e.0.auid e.1.tree.root
 
-abbrev pub len_in : DocId × Entry → ℕ
-len_in e = document_len e.1.tree.root
+abbrev pub entry_len : DocId × Entry → ℕ
+entry_len e = document_len e.1.tree.root
 
 -- the number of its creation
-abbrev pub number_in : DocId × Entry → ℕ
-number_in e = e.1.created
+abbrev pub entry_number : DocId × Entry → ℕ
+entry_number e = e.1.created
 
 -- the entry of a document after the edit of a change record, which is retained, and after which it
 -- has `bytes` bytes
-pub record IsRenewed (old : Entry) (number : ℕ) (note : Note) (bytes : ℕ)
+pub record IsUpdatedEntry (old : Entry) (number : ℕ) (note : Note) (bytes : ℕ)
     (new : Entry) : Type 0 where
   pub created : new.created ≡ old.created
   pub tag : new.tag ≡ number
   pub tree : new.tree.root ≡ edited old.tree.root note.change
   pub len : new.len ≡ bytes
-  pub notes : new.notes ≡ retained (old.notes ++ note ∷ [])
+  pub notes : new.notes ≡ retained_notes (old.notes ++ note ∷ [])
 
 -- ---- which trees are shared
 
 -- of each document, whether its tree is unshared
-abbrev pub trees_in : List (DocId × Entry) → List (DocId × Bool)
-trees_in es = map (λ e. (e.0, e.1.tree.own)) es
+abbrev pub unshared_flags : List (DocId × Entry) → List (DocId × Bool)
+unshared_flags es = map (λ e. (e.0, e.1.tree.own)) es
 
 -- the entry as if its tree were unshared
 abbrev pub as_unshared : Entry → Entry
@@ -73,43 +73,43 @@ all_as_unshared es = map (λ e. (e.0, as_unshared e.1)) es
 
 module _ {D : Type 0} (own : D → List (List ℕ)) (number : D → ℕ) where
   -- the number of the first document that has it
-  abbrev pub holder_in : List D → List ℕ → Option ℕ
-  holder_in [] uri = None
-  holder_in (d ∷ ds) uri =
-      if is_member bytes_eq (own d) uri then Some (number d) else holder_in ds uri
+  abbrev pub first_holder : List D → List ℕ → Option ℕ
+  first_holder [] uri = None
+  first_holder (d ∷ ds) uri =
+      if is_member bytes_eq (own d) uri then Some (number d) else first_holder ds uri
 
-abbrev pub holder : List (DocId × Entry) → List ℕ → Option ℕ
-holder es uri = holder_in uris_in number_in es uri
+abbrev pub address_holder : List (DocId × Entry) → List ℕ → Option ℕ
+address_holder es uri = first_holder entry_addresses entry_number es uri
 
 -- the document isn't the one with this number, if that exists
-abbrev pub is_others : Option ℕ → Option ℕ → Bool
-is_others own None = false
-is_others None (Some n) = true
-is_others (Some m) (Some n) = not (m == n)
+abbrev pub is_held_by_other : Option ℕ → Option ℕ → Bool
+is_held_by_other own None = false
+is_held_by_other None (Some n) = true
+is_held_by_other (Some m) (Some n) = not (m == n)
 
 -- an address in a registry
 abbrev pub registered_number : List (List ℕ × ℕ) → List ℕ → Option ℕ
 registered_number rs uri = lookup (bytes_eq uri) rs
 
 -- a registry after some addresses were removed and others added under a number
-abbrev pub exchanged : List (List ℕ) → List (List ℕ) → ℕ → Option ℕ → List ℕ → Option ℕ
-exchanged leaves enters number before uri =
+abbrev pub registered_after : List (List ℕ) → List (List ℕ) → ℕ → Option ℕ → List ℕ → Option ℕ
+registered_after leaves enters number before uri =
     if is_member bytes_eq enters uri then Some number
     else if is_member bytes_eq leaves uri then None
     else before
 
 -- ---- the invariant of a store
 
-pub record IsStoring (es : List (DocId × Entry)) (rs : List (List ℕ × ℕ))
+pub record IsConsistentStore (es : List (DocId × Entry)) (rs : List (List ℕ × ℕ))
     (last total : ℕ) : Type 0 where
   -- it represents a valid state
-  pub kept : (m : State) × Represents (content_in es last) m × IsValidState m
+  pub kept : (m : State) × Represents (contents_view es last) m × IsValidState m
   -- its registry gives for each address the document that has it
-  pub addresses : (uri : List ℕ) → registered_number rs uri ≡ holder es uri
+  pub addresses : (uri : List ℕ) → registered_number rs uri ≡ address_holder es uri
   -- each creation has its own number
-  pub numbers : AreDistinct (map number_in es)
-  pub given : AllByRecursion (λ e. number_in e ≤ last) es
+  pub numbers : AreDistinct (map entry_number es)
+  pub given : AllByRecursion (λ e. entry_number e ≤ last) es
   -- the total is the sum of the documents' lengths
-  pub sum : total ≡ sum_by len_in es
+  pub sum : total ≡ sum_by entry_len es
   -- the stored length of each document is its length
-  pub lens : AllByRecursion (λ e. e.1.len ≡ len_in e) es
+  pub lens : AllByRecursion (λ e. e.1.len ≡ entry_len e) es

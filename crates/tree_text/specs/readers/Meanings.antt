@@ -12,12 +12,13 @@ use Rattle.tree_text.specs.declared.attribute_meanings.Meaning.{Meaning}
 use Rattle.tree_text.specs.declared.attribute_meanings.Meaning.TheVariants.{Declared, Named}
 use Rattle.tree_text.specs.declared.raw_attribute.RawAttribute.{RawAttribute}
 use Rattle.tree_text.specs.contracts.attribute_meanings.MeaningOrd.TheImpl.{cmp-value}
-use Rattle.tree_text.specs.readers.Bindings.{lists, number}
-use Rattle.tree_text.specs.Names.{raw_attribute_decl, is_declaring}
+use Rattle.tree_text.specs.readers.Bindings.{lists, namespace_number}
+use Rattle.tree_text.specs.Names.{raw_attribute_decl, is_xmlns_attr_name}
 
 -- the number of the namespace of an attribute of this name
 abbrev pub attr_number : Bindings → Name → Option ℕ
-attr_number here n = option_and_then (number here.namespaces) (attr_name (lists here) n).uri
+attr_number here n =
+    option_and_then (namespace_number here.namespaces) (attr_name (lists here) n).uri
 
 -- whether two numbers are equal
 abbrev pub same_number : Option ℕ → Option ℕ → Bool
@@ -27,21 +28,24 @@ same_number (Some n) None = false
 same_number (Some n) (Some m) = n == m
 
 -- this is the meaning of a raw attribute
-abbrev pub Means : Bindings → RawAttribute → Meaning → Type 0
-Means here s (Declared prefix) =
-    (is_declaring s.name ≡ true) × (prefix.now ≡ encode_utf8_all (raw_attribute_decl s).prefix)
-Means here s (Named local n) =
-    (is_declaring s.name ≡ false) × (local.now ≡ s.name.local)
-    × (option_map Some n ≡ option_map (number here.namespaces) (attr_name (lists here) s.name).uri)
+abbrev pub IsMeaningOf : Bindings → RawAttribute → Meaning → Type 0
+IsMeaningOf here s (Declared prefix) =
+    (is_xmlns_attr_name s.name ≡ true)
+    × (prefix.now ≡ encode_utf8_all (raw_attribute_decl s).prefix)
+IsMeaningOf here s (Named local n) =
+    (is_xmlns_attr_name s.name ≡ false) × (local.now ≡ s.name.local)
+    × (option_map Some n
+    ≡ option_map (namespace_number here.namespaces) (attr_name (lists here) s.name).uri)
 
 -- whether a raw attribute has this meaning
 abbrev pub has_meaning : Bindings → Meaning → RawAttribute → Bool
 has_meaning here (Declared prefix) s =
-    is_declaring s.name && bytes_eq (encode_utf8_all (raw_attribute_decl s).prefix) prefix.now
+    is_xmlns_attr_name s.name && bytes_eq (encode_utf8_all (raw_attribute_decl s).prefix) prefix.now
 has_meaning here (Named local n) s =
-    not (is_declaring s.name)
+    not (is_xmlns_attr_name s.name)
     && (same_number (attr_number here s.name) n && bytes_eq s.name.local local.now)
 
 -- a set holds exactly the meanings of these raw attributes
-abbrev pub Holds : Bindings → List RawAttribute → BTreeSet Meaning → Type 0
-Holds here es seen = (m : Meaning) → contains cmp-value.it seen m ≡ list_any (has_meaning here m) es
+abbrev pub HoldsMeaningsOf : Bindings → List RawAttribute → BTreeSet Meaning → Type 0
+HoldsMeaningsOf here es seen = (m : Meaning)
+    → contains cmp-value.it seen m ≡ list_any (has_meaning here m) es

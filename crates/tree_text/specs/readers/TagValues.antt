@@ -2,7 +2,7 @@
 use Rattle.std.specs.Prelude.{ℕ, Bool, List, length}
 use Rattle.xml_names.specs.declared.names.Name.{Name}
 use Rattle.tree_text.specs.declared.raw_attribute.RawAttribute.{RawAttribute}
-use Rattle.tree_text.specs.Pieces.{StartTag}
+use Rattle.tree_text.specs.ContentPieces.{StartTag}
 
 -- a raw attribute, of the white space before it and of its name and value with their width
 abbrev pub raw_attribute_of : List ℕ × ((Name × List ℕ) × ℕ) → RawAttribute

@@ -5,12 +5,12 @@ use Rattle.xml_tree.specs.Print.{print}
 use Rattle.xml_tree.specs.declared.tree.Node.{Node}
 use Rattle.xml_tree.specs.declared.tree.Node.TheVariants.{Elem, Chars, Comment}
 use Rattle.usage_docs.specs.SchemaTable.{Scope}
-use Rattle.usage_docs.specs.Services.{is_service, listed_as}
-use Rattle.usage_docs.specs.readers.Siblings.{node_children}
+use Rattle.usage_docs.specs.Services.{is_service, listed_service}
+use Rattle.usage_docs.specs.readers.SiblingElements.{node_children}
 
 -- the services among nodes, as the index lists them
 abbrev pub listed_nodes : Scope → List Node → List Node
-listed_nodes c ns = map Elem (map (listed_as c) (filter (is_service c) (node_children ns)))
+listed_nodes c ns = map Elem (map (listed_service c) (filter (is_service c) (node_children ns)))
 
 -- the printed length of an element that is a node
 abbrev pub elem_len : Node → ℕ

@@ -1,8 +1,8 @@
 -- A port whose connections are known before, and on which replies are discarded. The project's
 -- own.
 use Rattle.std.specs.Prelude.{ℕ, List, [], None, Some}
-use Rattle.xcap_io.specs.Causes.{StreamState, no_peer}
-use Rattle.xcap_io.specs.Histories.{ConnectionHistory}
+use Rattle.xcap_io.specs.StreamStates.{StreamState, no_peer}
+use Rattle.xcap_io.specs.ConnectionHistories.{ConnectionHistory}
 
 -- These connections are to come, and of the current one these bytes are left. It never fails, and
 -- has no address.

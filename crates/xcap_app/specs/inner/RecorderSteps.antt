@@ -1,10 +1,10 @@
 -- A server that records the status of each reply, as contracts of private functions see it.
 use Rattle.std.proofs.Common.{arith}
 use Rattle.std.specs.Prelude.{◌≡◌, ℕ, suc, ◌+◌, ◌≤◌, true, List, [], ◌∷◌, ◌++◌, length, map, Option}
-use Rattle.xcap_io.specs.Histories.{Traffic}
-use Rattle.http_wire.specs.ServedConnections.{ServesAll, without_faults}
+use Rattle.xcap_io.specs.ConnectionHistories.{Traffic}
+use Rattle.http_wire.specs.ServedConnections.{ServesAll, machine_without_faults}
 use Rattle.http_serve.specs.FixedReplies.{fixed_reply}
-use Rattle.http_serve.specs.ReplyBytes.{InBytes}
+use Rattle.http_serve.specs.ReplyBytes.{StepsInBytes}
 use Rattle.reply_text.specs.ReplyHeads.{SentReply}
 use Rattle.http_wire.specs.declared.request.Request.{Request}
 use Rattle.edit_ops.specs.declared.edit.Edit.{Edit}
@@ -12,31 +12,32 @@ use Rattle.store_core.specs.Contents.{Represents}
 use Rattle.store_core.specs.ValidStates.{IsValidState}
 use Rattle.store_core.specs.State.{State}
 use Rattle.xcap_machine.specs.Machine.{ValidStep}
-use Rattle.xcap_machine.specs.Servers.{ServerState}
-use Rattle.xcap_app.specs.StatusRecorders.{Noted, NotedStep}
+use Rattle.xcap_machine.specs.ServerStates.{ServerState}
+use Rattle.xcap_app.specs.StatusRecorders.{RecordedState, RecordedStep}
 use Rattle.xcap_app.specs.SampleRequests.{root_text}
 
 -- the server, the recorded statuses, and the number of statuses that fit
-pub record NotingState : Type 0 where
+pub record RecorderState : Type 0 where
   pub server : ServerState
   pub statuses : List ℕ
   pub room : ℕ
 
 -- the server of the sample's root, without documents and statuses
-abbrev pub is_new : ℕ → NotingState
-is_new room = record {
+abbrev pub new_recorder_state : ℕ → RecorderState
+new_recorder_state room = record {
   server = record { root = root_text; content = record { documents = []; next = 1 } };
   statuses = [];
   room = room;
 }
 
 -- at least `n` more statuses fit
-abbrev pub HasRoomFor : NotingState → ℕ → Type 0
-HasRoomFor s n = length s.statuses + n ≤ s.room
+abbrev pub HasRoomForStatuses : RecorderState → ℕ → Type 0
+HasRoomForStatuses s n = length s.statuses + n ≤ s.room
 
 -- where n + 1 more statuses fit, n fit
-pub has_fewer : (s : NotingState) (n : ℕ) → HasRoomFor s (suc n) → HasRoomFor s n
-has_fewer s n room = omega (arith, room)
+pub has_room_for_fewer : (s : RecorderState) (n : ℕ) → HasRoomForStatuses s (suc n)
+    → HasRoomForStatuses s n
+has_room_for_fewer s n room = omega (arith, room)
 
 -- from each valid state that the server's contents represent, the machine of its root makes this
 -- step, and the contents then represent the next state
@@ -48,15 +49,15 @@ FollowsMachine old request reply new edit =
 
 -- The server answered as the machine of its root, and appended the status of the reply to the
 -- others.
-pub record AnswersNoting (old : NotingState) (request : Request) (reply : SentReply)
-    (new : NotingState) (edit : Option Edit) : Type 0 where
+pub record AnswersRecording (old : RecorderState) (request : Request) (reply : SentReply)
+    (new : RecorderState) (edit : Option Edit) : Type 0 where
   pub same_root : new.server.root ≡ old.server.root
   pub follows : FollowsMachine old.server request reply new.server edit
   pub notes : new.statuses ≡ old.statuses ++ reply.status ∷ []
 
 -- the server's contents represent this state of the machine of the root, and the recorded statuses
 -- are the same
-pub record RepresentsRecorded (root : List ℕ) (s : NotingState) (m : Noted) : Type 0 where
+pub record RepresentsRecorded (root : List ℕ) (s : RecorderState) (m : RecordedState) : Type 0 where
   pub same_root : s.server.root ≡ root
   pub kept : IsValidState m.state
   pub stands : Represents s.server.content m.state
@@ -64,13 +65,13 @@ pub record RepresentsRecorded (root : List ℕ) (s : NotingState) (m : Noted) : 
 
 -- Connections with these bytes were served to their end, with no fault, by the machine of the root
 -- from this state on, and the server's contents then represent the state that they lead to.
-pub record ServesThem (root : List ℕ) (all : List (List ℕ)) (s : NotingState)
-    (m : Noted) : Type 0 where
+pub record ServesConnectionBytes (root : List ℕ) (all : List (List ℕ)) (s : RecorderState)
+    (m : RecordedState) : Type 0 where
   pub connections : List Traffic
   pub all_bytes : map (λ c. c.given) connections ≡ all
   pub all_ends : map (λ c. c.ended) connections ≡ map (λ c. true) connections
-  pub next : Noted
+  pub next : RecordedState
   pub edits : List Edit
   pub stands : RepresentsRecorded root s next
-  pub serves : ServesAll (InBytes (NotedStep root)) fixed_reply (without_faults m)
-      (without_faults next) connections edits
+  pub serves : ServesAll (StepsInBytes (RecordedStep root)) fixed_reply (machine_without_faults m)
+      (machine_without_faults next) connections edits

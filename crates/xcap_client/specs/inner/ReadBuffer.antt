@@ -1,7 +1,7 @@
 -- What is sought in the bytes that were read so far.
 use Rattle.std.specs.Prelude.{ℕ, List, ◌++◌, ◌≡◌, ◌<◌, ◌⊎◌, length, drop, Option, None, Some}
-use Rattle.xcap_client.specs.Heads.{HasNoHead, BeginsWithHead}
-use Rattle.xcap_io.specs.Causes.{InputState}
+use Rattle.xcap_client.specs.ResponseHeads.{HasNoHead, BeginsWithHead}
+use Rattle.xcap_io.specs.StreamStates.{InputState}
 use Rattle.xcap_io.specs.StreamTraffic.{IsEnded}
 use Rattle.httparse.specs.Grammar.{ResponseHead}
 use Rattle.httparse.specs.Spans.{IsResponseAt, IsResponseWithin}
@@ -23,18 +23,18 @@ pub record IsHeadAt (bytes : List ℕ) (headers : List HeaderSpan) (spans : Resp
   pub parts : IsResponseAt bytes headers spans head
 
 -- the result of a search for a head at the front of some bytes
-abbrev pub IsFront : List ℕ → List HeaderSpan → HeadScan → Type 0
-IsFront bytes headers (Head spans) = (head : ResponseHead) × IsHeadAt bytes headers spans head
-IsFront bytes headers Open = HasNoHead bytes × (length bytes < MAX_HEAD_BYTES)
-IsFront bytes headers Hopeless = NeverHasHead bytes
+abbrev pub IsHeadScan : List ℕ → List HeaderSpan → HeadScan → Type 0
+IsHeadScan bytes headers (Head spans) = (head : ResponseHead) × IsHeadAt bytes headers spans head
+IsHeadScan bytes headers Open = HasNoHead bytes × (length bytes < MAX_HEAD_BYTES)
+IsHeadScan bytes headers Hopeless = NeverHasHead bytes
 
 -- there is a head at the front, or none however the bytes go on, or none as a read found their end
-abbrev pub HeadOrNone : List ℕ → InputState → List HeaderSpan → Option ResponseSpans → Type 0
-HeadOrNone held source headers (Some spans) =
+abbrev pub IsHeadOrNone : List ℕ → InputState → List HeaderSpan → Option ResponseSpans → Type 0
+IsHeadOrNone held source headers (Some spans) =
     (head : ResponseHead) × IsHeadAt held headers spans head
-HeadOrNone held source headers None = NeverHasHead held ⊎ (HasNoHead held × IsEnded source)
+IsHeadOrNone held source headers None = NeverHasHead held ⊎ (HasNoHead held × IsEnded source)
 
 -- this is the value of `f` on the bytes given, however they go on, or as a read found their end
-abbrev pub Settles : {A : Type 0} → (List ℕ → A) → List ℕ → InputState → A → Type 0
-Settles f given source value =
+abbrev pub SettlesValue : {A : Type 0} → (List ℕ → A) → List ℕ → InputState → A → Type 0
+SettlesValue f given source value =
     ((more : List ℕ) → f (given ++ more) ≡ value) ⊎ ((f given ≡ value) × IsEnded source)

@@ -6,6 +6,6 @@ use Rattle.xml_tree.specs.Tree.{Tree}
 use Rattle.xcap_machine.specs.Resources.{IsResourceOf, there, version_of}
 
 -- a document is stored with this tag, and its name leads to it
-abbrev pub IsHeldWith : StoreContents → DocId → ℕ → Type 0
-IsHeldWith c id tag =
+abbrev pub IsStoredWithTag : StoreContents → DocId → ℕ → Type 0
+IsStoredWithTag c id tag =
     (t : Tree) × (version_of c id ≡ Some (t, tag)) × IsResourceOf c id (there t tag)

@@ -6,16 +6,16 @@ use Rattle.doc_names.specs.declared.usages.Usage.{Usage}
 use Rattle.usage_docs.specs.Validation.{HasFirstFault}
 use Rattle.edit_ops.specs.Changes.{edited}
 use Rattle.edit_ops.specs.declared.change.Change.{Change}
-use Rattle.edit_rules.specs.Plans.{LeavesProper}
-use Rattle.edit_rules.specs.declared.refusal.EditRefusal.{EditRefusal}
+use Rattle.edit_rules.specs.CheckedChanges.{LeavesProperTree}
+use Rattle.edit_rules.specs.declared.edit_refusal.EditRefusal.{EditRefusal}
 use Rattle.edit_rules.specs.declared.spot.Spot.{Spot}
 use Rattle.edit_rules.specs.declared.spot.Spot.TheVariants.{Over, Under, Beside, Value}
 use Rattle.node_select.specs.declared.selector.Selector.{Selector}
 use Rattle.http_wire.specs.declared.request.Request.{Request}
-use Rattle.store_core.specs.Queries.{Asks}
+use Rattle.store_core.specs.ChangePreconditions.{MayRequest}
 use Rattle.store_core.specs.Contents.{StoreContents}
-use Rattle.xcap_machine.specs.Answers.{Answer, unchanged}
-use Rattle.xcap_machine.specs.NodeWrites.{CutsNode, is_there, plan_refused}
+use Rattle.xcap_machine.specs.Answers.{Answer, reply_only}
+use Rattle.xcap_machine.specs.NodeWrites.{RemovesNode, node_exists, plan_refusal_reply}
 use Rattle.xcap_machine.specs.DocumentWrites.{change_answer, put_reply}
 use Rattle.xcap_put.specs.declared.plan.Plan.{Plan}
 use Rattle.xcap_put.specs.declared.plan.Plan.TheVariants.{Stops, Makes}
@@ -33,44 +33,44 @@ SpotExists t (Value p) = IsSome (at p t)
 
 -- a change of a document that is stored with this tree: one that leaves a document of the usage,
 -- if it isn't too long
-pub record MayBeMade (usage : Usage) (t : Tree) (change : Change) : Type 0 where
-  pub leaves : LeavesProper t change
+pub record IsValidChange (usage : Usage) (t : Tree) (change : Change) : Type 0 where
+  pub leaves : LeavesProperTree t change
   pub faultless : HasFirstFault usage (edited t change) None
 
-abbrev pub MayBeMadeBy : Usage → Tree → Plan → Type 0
-MayBeMadeBy usage t (Stops reply) = Unit {0}
-MayBeMadeBy usage t (Makes change exists) = MayBeMade usage t change
+abbrev pub HasValidChange : Usage → Tree → Plan → Type 0
+HasValidChange usage t (Stops reply) = Unit {0}
+HasValidChange usage t (Makes change exists) = IsValidChange usage t change
 
 -- the store may be asked for the plan's change
-abbrev pub AsksBy : StoreContents → DocId → Plan → Type 0
-AsksBy c id (Stops reply) = Unit {0}
-AsksBy c id (Makes change exists) = Asks c id change
+abbrev pub AsksForPlan : StoreContents → DocId → Plan → Type 0
+AsksForPlan c id (Stops reply) = Unit {0}
+AsksForPlan c id (Makes change exists) = MayRequest c id change
 
 -- the answer on these contents: the reply alone, or the store's answer to the change
-abbrev pub answer_by : StoreContents → DocId → Bool → Plan → Answer
-answer_by c id closes (Stops reply) = unchanged reply
-answer_by c id closes (Makes change exists) =
+abbrev pub answer_of_plan : StoreContents → DocId → Bool → Plan → Answer
+answer_of_plan c id closes (Stops reply) = reply_only reply
+answer_of_plan c id closes (Makes change exists) =
     change_answer c id change closes (put_reply exists closes)
 
 -- whatever the contents are, the plan's answer is of this kind
 pub record IsPlanFor (usage : Usage) (t : Tree) (id : DocId) (closes : Bool)
     (Is : StoreContents → Answer → Type 0) (plan : Plan) : Type 0 where
-  pub answers : (c : StoreContents) → Is c (answer_by c id closes plan)
-  pub may_be_made : MayBeMadeBy usage t plan
+  pub answers : (c : StoreContents) → Is c (answer_of_plan c id closes plan)
+  pub may_be_made : HasValidChange usage t plan
 
 -- the plan is the planned change, or the reply for the reason why there is none
-abbrev pub IsPlanOf : Result Change EditRefusal → Bool → Bool → Plan → Type 0
-IsPlanOf (Ok change) exists closes plan = plan ≡ Makes change exists
-IsPlanOf (Err why) exists closes plan = plan ≡ Stops (plan_refused why closes)
+abbrev pub IsPlanFromResult : Result Change EditRefusal → Bool → Bool → Plan → Type 0
+IsPlanFromResult (Ok change) exists closes plan = plan ≡ Makes change exists
+IsPlanFromResult (Err why) exists closes plan = plan ≡ Stops (plan_refusal_reply why closes)
 
 -- the plan of a DELETE of what the selector finds, before the conditions are tested; there is none
 -- where nothing is found
 abbrev pub IsRemovalPlan : Usage → Tree → Selector → Request → Option Plan → Type 0
-IsRemovalPlan usage t selector request None = is_there t selector ≡ false
+IsRemovalPlan usage t selector request None = node_exists t selector ≡ false
 IsRemovalPlan usage t selector request (Some plan) =
-    (is_there t selector ≡ true)
+    (node_exists t selector ≡ true)
     × ((id : DocId)
     → IsPlanFor usage t id request.closes
     (λ c a.
-    CutsNode c (record { id = id; usage = usage; selector = selector; request = request }) t a)
+    RemovesNode c (record { id = id; usage = usage; selector = selector; request = request }) t a)
     plan)

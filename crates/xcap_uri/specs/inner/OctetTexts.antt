@@ -8,11 +8,11 @@ use Rattle.doc_names.specs.declared.doc_id.Home.TheVariants.{Global, User}
 abbrev pub IsOctet : ℕ → Type 0
 IsOctet b = b < 256
 
-pub record IsSpelled (text : List ℕ) : Type 0 where
+pub record IsDecodedText (text : List ℕ) : Type 0 where
   pub utf8 : IsUtf8 (encode_utf8_all text)
   pub octets : All IsOctet (encode_utf8_all text)
   pub letters : chars (encode_utf8_all text) ≡ text
 
-abbrev pub IsSpelledHome : Home → Type 0
-IsSpelledHome Global = Unit {0}
-IsSpelledHome (User xui) = IsSpelled xui
+abbrev pub IsDecodedHome : Home → Type 0
+IsDecodedHome Global = Unit {0}
+IsDecodedHome (User xui) = IsDecodedText xui

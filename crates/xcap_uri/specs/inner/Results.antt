@@ -7,10 +7,10 @@ use Rattle.xml_names.specs.declared.read_error.ReadError.TheVariants.{NoMemory}
 use Rattle.xcap_uri.specs.readers.Steps.{UriError}
 
 -- the stated result, or this one, which means out of memory
-abbrev pub StatedOr : {T E : Type 0} → E → Result T E → Result T E → Type 0
-StatedOr memory stated r = (r ≡ stated) ⊎ (r ≡ Err memory)
+abbrev pub IsStatedOr : {T E : Type 0} → E → Result T E → Result T E → Type 0
+IsStatedOr memory stated r = (r ≡ stated) ⊎ (r ≡ Err memory)
 
 -- the stated result, seen by this view, or out of memory
-abbrev pub Gives : {X Y : Type 0} → (X → Y) → Result X UriError → Result Y UriError → Type 0
-Gives view (Ok x) stated = stated ≡ Ok (view x)
-Gives view (Err fault) stated = (stated ≡ Err fault) ⊎ (fault ≡ NoMemory)
+abbrev pub GivesStated : {X Y : Type 0} → (X → Y) → Result X UriError → Result Y UriError → Type 0
+GivesStated view (Ok x) stated = stated ≡ Ok (view x)
+GivesStated view (Err fault) stated = (stated ≡ Err fault) ⊎ (fault ≡ NoMemory)

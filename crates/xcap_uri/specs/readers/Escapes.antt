@@ -4,18 +4,18 @@ use Rattle.std.specs.Prelude.{if◌then◌else◌, chars}
 use Rattle.std.specs.Str.{is_utf8}
 use Rattle.percent_encoding.specs.Percent.{percent_decode}
 use Rattle.xml_names.specs.declared.read_error.ReadError.TheVariants.{Fault}
-use Rattle.xcap_uri.specs.Escapes.{has_whole_escapes}
+use Rattle.xcap_uri.specs.Escapes.{has_complete_escapes}
 use Rattle.xcap_uri.specs.readers.Steps.{UriError, ◌>>=◌}
 use Rattle.xcap_uri.specs.declared.fault.UriFault.TheVariants.{BadEscape}
 
 -- whether a part of an address decodes to a text
-abbrev pub stands_for_text : List ℕ → Bool
-stands_for_text part = has_whole_escapes part && is_utf8 (percent_decode part)
+abbrev pub decodes_to_text : List ℕ → Bool
+decodes_to_text part = has_complete_escapes part && is_utf8 (percent_decode part)
 
 -- the text that it decodes to
 abbrev pub parsed_text : List ℕ → Result (List ℕ) UriError
 parsed_text part =
-    if stands_for_text part then Ok (chars (percent_decode part)) else Err (Fault BadEscape)
+    if decodes_to_text part then Ok (chars (percent_decode part)) else Err (Fault BadEscape)
 
 -- the text of a part that may be absent
 abbrev pub parsed_optional_text : Option (List ℕ) → Result (Option (List ℕ)) UriError

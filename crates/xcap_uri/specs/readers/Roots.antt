@@ -4,7 +4,7 @@ use Rattle.std.specs.Prelude.{None, Some}
 use Rattle.std.specs.List.{list_all}
 use Rattle.std.specs.Option.{option_or}
 use Rattle.xcap_uri.specs.Delimiters.{rest_after_front, pieces}
-use Rattle.xcap_uri.specs.Roots.{slash, is_authority_char, is_segment_char, is_some_of}
+use Rattle.xcap_uri.specs.Roots.{slash, is_authority_char, is_segment_char, is_one_or_more}
 use Rattle.xcap_uri.specs.declared.root.TheConstants.{MAX_ROOT_LEN}
 
 -- what comes after the scheme
@@ -16,7 +16,7 @@ strip_scheme text =
 abbrev pub are_authority_and_segments : List (List ℕ) → Bool
 are_authority_and_segments [] = false
 are_authority_and_segments (authority ∷ segments) =
-    is_some_of is_authority_char authority && list_all (is_some_of is_segment_char) segments
+    is_one_or_more is_authority_char authority && list_all (is_one_or_more is_segment_char) segments
 
 abbrev pub is_root_after_scheme : Option (List ℕ) → Bool
 is_root_after_scheme None = false

@@ -5,7 +5,7 @@ use Rattle.std.specs.List.{list_any}
 use Rattle.std.specs.Str.{bytes_eq}
 use Rattle.xml_names.specs.declared.read_error.ReadError.TheVariants.{Fault}
 use Rattle.xcap_uri.specs.readers.Steps.{UriError}
-use Rattle.xcap_uri.specs.Shapes.{doc_of, tag_spelled}
+use Rattle.xcap_uri.specs.Shapes.{doc_of, parse_tag}
 use Rattle.xcap_uri.specs.Words.{global, users, feed, flat, element_word}
 use Rattle.xcap_uri.specs.readers.Words.{resource_lists, rls_services, xcap_caps, no_patching}
 use Rattle.xcap_uri.specs.readers.Words.{xcap_patching, aggregate}
@@ -55,22 +55,22 @@ document_shape doc (Some []) = Err (Fault BadShape)
 document_shape doc (Some (c ∷ cs)) = Ok (Node doc (c ∷ cs))
 
 -- after a home: a name, or more, which is below a document; then the selector isn't looked at
-abbrev pub in_home : Auid → Home → List (List ℕ) → Option (List ℕ) → Result Shape UriError
-in_home auid home [] selector = Err (Fault BadShape)
-in_home auid home (name ∷ []) selector = document_shape (doc_of auid home name) selector
-in_home auid home (name ∷ next ∷ more) selector = Ok (Deep auid home)
+abbrev pub home_shape : Auid → Home → List (List ℕ) → Option (List ℕ) → Result Shape UriError
+home_shape auid home [] selector = Err (Fault BadShape)
+home_shape auid home (name ∷ []) selector = document_shape (doc_of auid home name) selector
+home_shape auid home (name ∷ next ∷ more) selector = Ok (Deep auid home)
 
 -- after `users`: a user
-abbrev pub of_user : Auid → List (List ℕ) → Option (List ℕ) → Result Shape UriError
-of_user auid [] selector = Err (Fault BadShape)
-of_user auid (xui ∷ rest) selector = in_home auid (User xui) rest selector
+abbrev pub user_shape : Auid → List (List ℕ) → Option (List ℕ) → Result Shape UriError
+user_shape auid [] selector = Err (Fault BadShape)
+user_shape auid (xui ∷ rest) selector = home_shape auid (User xui) rest selector
 
 -- after an AUID: `global` or `users`
-abbrev pub in_usage : Auid → List (List ℕ) → Option (List ℕ) → Result Shape UriError
-in_usage auid [] selector = Err (Fault BadShape)
-in_usage auid (tree ∷ rest) selector =
-    if bytes_eq tree global then in_home auid Global rest selector
-    else if bytes_eq tree users then of_user auid rest selector
+abbrev pub usage_shape : Auid → List (List ℕ) → Option (List ℕ) → Result Shape UriError
+usage_shape auid [] selector = Err (Fault BadShape)
+usage_shape auid (tree ∷ rest) selector =
+    if bytes_eq tree global then home_shape auid Global rest selector
+    else if bytes_eq tree users then user_shape auid rest selector
     else Err (Fault BadShape)
 
 -- ---- feeds and flat lists
@@ -82,28 +82,29 @@ stored_doc auid tree xui name =
     else None
 
 -- the feed of an element has a selector, which isn't empty
-abbrev pub element_feed : ℕ → DocId → Option (List ℕ) → Result Shape UriError
-element_feed tag doc None = Err (Fault BadShape)
-element_feed tag doc (Some []) = Err (Fault BadShape)
-element_feed tag doc (Some (c ∷ cs)) = Ok (ElementFeed tag doc (c ∷ cs))
+abbrev pub element_feed_shape : ℕ → DocId → Option (List ℕ) → Result Shape UriError
+element_feed_shape tag doc None = Err (Fault BadShape)
+element_feed_shape tag doc (Some []) = Err (Fault BadShape)
+element_feed_shape tag doc (Some (c ∷ cs)) = Ok (ElementFeed tag doc (c ∷ cs))
 
 -- the feed of a document has a mode, and no selector
-abbrev pub document_feed : Option Mode → ℕ → DocId → Option (List ℕ) → Result Shape UriError
-document_feed None tag doc selector = Err (Fault BadShape)
-document_feed (Some mode) tag doc None = Ok (Feed mode tag doc)
-document_feed (Some mode) tag doc (Some text) = Err (Fault BadShape)
+abbrev pub document_feed_shape : Option Mode → ℕ → DocId → Option (List ℕ) → Result Shape UriError
+document_feed_shape None tag doc selector = Err (Fault BadShape)
+document_feed_shape (Some mode) tag doc None = Ok (Feed mode tag doc)
+document_feed_shape (Some mode) tag doc (Some text) = Err (Fault BadShape)
 
-abbrev pub either_feed : List ℕ → Option ℕ → Option DocId → Option (List ℕ) → Result Shape UriError
-either_feed mode None doc selector = Err (Fault BadShape)
-either_feed mode (Some tag) None selector = Err (Fault BadShape)
-either_feed mode (Some tag) (Some doc) selector =
-    if bytes_eq mode element_word then element_feed tag doc selector
-    else document_feed (mode_of mode) tag doc selector
+abbrev pub feed_shape_by_mode : List ℕ → Option ℕ → Option DocId → Option (List ℕ)
+    → Result Shape UriError
+feed_shape_by_mode mode None doc selector = Err (Fault BadShape)
+feed_shape_by_mode mode (Some tag) None selector = Err (Fault BadShape)
+feed_shape_by_mode mode (Some tag) (Some doc) selector =
+    if bytes_eq mode element_word then element_feed_shape tag doc selector
+    else document_feed_shape (mode_of mode) tag doc selector
 
 -- after `~feed`: a mode or `element`, an etag, a stored AUID, `users`, a user and a name
 abbrev pub feed_shape : List (List ℕ) → Option (List ℕ) → Result Shape UriError
 feed_shape (mode ∷ tag ∷ auid ∷ tree ∷ xui ∷ name ∷ []) selector =
-    either_feed mode (tag_spelled tag) (stored_doc auid tree xui name) selector
+    feed_shape_by_mode mode (parse_tag tag) (stored_doc auid tree xui name) selector
 feed_shape _ selector = Err (Fault BadShape)
 
 -- after `~flat`: a user, a name and the address of a service, without separator
@@ -113,16 +114,17 @@ flat_shape _ selector = Err (Fault BadShape)
 
 -- ---- all shapes
 
-abbrev pub of_usage : Option Auid → List (List ℕ) → Option (List ℕ) → Result Shape UriError
-of_usage None rest selector = Err (Fault UnknownAuid)
-of_usage (Some auid) rest selector = in_usage auid rest selector
+abbrev pub usage_shape_if_known : Option Auid → List (List ℕ) → Option (List ℕ)
+    → Result Shape UriError
+usage_shape_if_known None rest selector = Err (Fault UnknownAuid)
+usage_shape_if_known (Some auid) rest selector = usage_shape auid rest selector
 
 abbrev pub shape_of_segments : List (List ℕ) → Option (List ℕ) → Result Shape UriError
 shape_of_segments [] selector = Err (Fault UnknownAuid)
 shape_of_segments (first ∷ rest) selector =
     if bytes_eq first feed then feed_shape rest selector
     else if bytes_eq first flat then flat_shape rest selector
-    else of_usage (auid_of first) rest selector
+    else usage_shape_if_known (auid_of first) rest selector
 
 abbrev pub is_empty : List ℕ → Bool
 is_empty [] = true

@@ -6,10 +6,10 @@ use Rattle.xml_tree.specs.declared.tree.Node.TheVariants.{Elem, Chars, Comment}
 use Rattle.xml_tree.specs.Nodes.{is_text}
 
 -- a text with these characters appended; other nodes as they are
-abbrev pub node_with : List ℕ → Node → Node
-node_with s (Elem e) = Elem e
-node_with s (Chars t) = Chars (t ++ s)
-node_with s (Comment c) = Comment c
+abbrev pub with_text_appended : List ℕ → Node → Node
+with_text_appended s (Elem e) = Elem e
+with_text_appended s (Chars t) = Chars (t ++ s)
+with_text_appended s (Comment c) = Comment c
 
 -- whether the last node is a text
 abbrev pub ends_in_text : List Node → Bool
@@ -18,7 +18,7 @@ ends_in_text (x ∷ []) = is_text x
 ends_in_text (x ∷ y ∷ ns) = ends_in_text (y ∷ ns)
 
 -- without the i-th node; the texts beside it are replaced by one, if one is given
-abbrev pub removed_joined : ℕ → Option (List ℕ) → List Node → List Node
-removed_joined zero t ns = remove ns 0
-removed_joined (suc i) None ns = remove ns (suc i)
-removed_joined (suc i) (Some t) ns = slice_set (remove (remove ns (suc i)) (suc i)) i (Chars t)
+abbrev pub without_node : ℕ → Option (List ℕ) → List Node → List Node
+without_node zero t ns = remove ns 0
+without_node (suc i) None ns = remove ns (suc i)
+without_node (suc i) (Some t) ns = slice_set (remove (remove ns (suc i)) (suc i)) i (Chars t)

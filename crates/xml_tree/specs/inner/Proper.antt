@@ -2,8 +2,8 @@
 use Rattle.std.specs.Prelude.{List}
 use Rattle.xml_tree.specs.Tree.{Content}
 use Rattle.xml_names.specs.declared.names.Decl.{Decl}
-use Rattle.xml_tree.specs.Proper.{Everywhere, IsProperPart}
+use Rattle.xml_tree.specs.Proper.{HoldsOfContent, IsProperPart}
 
 -- a proper content, in the scope inside its element
-abbrev pub Proper : List (List Decl) → Content → Type 0
-Proper = Everywhere IsProperPart
+abbrev pub IsProperContent : List (List Decl) → Content → Type 0
+IsProperContent = HoldsOfContent IsProperPart

@@ -1,5 +1,5 @@
 use Rattle.std.proofs.Common.{ℕ, List, ◌-◌, ◌∙◌, length, sym, subst, take}
-use Rattle.xcap_io.specs.StreamTraffic.{Gave}
+use Rattle.xcap_io.specs.StreamTraffic.{GivesBytes}
 use Rattle.xcap_io.proofs.TrafficSums.{gave_on}
 use Rattle.http_wire.proofs.Buffers.{put_behind}
 use Rattle.xcap_io.proofs.Lines.{reads_on}
@@ -18,7 +18,7 @@ reading-preserved g c =
     let behind : List ℕ = post_of held (length buffer - held) buffer in
     record {
       within = behind_front buffer piece behind held count so_far.within call.in_bounds.0;
-      consumed = subst (Gave (g.I.Line.state c.args.input.now).inward (g.I.Line.state c.read.new.self).inward) (sym (put_behind buffer piece behind held count so_far.within call.in_bounds.0))
+      consumed = subst (GivesBytes (g.I.Line.state c.args.input.now).inward (g.I.Line.state c.read.new.self).inward) (sym (put_behind buffer piece behind held count so_far.within call.in_bounds.0))
           (gave_on _ _ _ (take held buffer) (take count piece) so_far.consumed call.appends_read.0);
       reads = reads_on _ _ _ so_far.reads call.only_reads.reads;
       stayed = call.only_reads.counts ∙ so_far.stayed;

@@ -1,7 +1,7 @@
 use Rattle.std.proofs.Common.{rules}
 use Rattle.edit_journal.specs.Journals.{IsJournalProgress}
-use Rattle.edit_journal.specs.Logs.{Fits}
-use Rattle.edit_journal.specs.Ports.{ServesLogged}
+use Rattle.edit_journal.specs.JournalLogs.{LogFitsJournal}
+use Rattle.edit_journal.specs.LoggedPorts.{ServesLogged}
 use Rattle.edit_journal.proofs.LogAccounts.{port_goes, port_logged}
 use Rattle.edit_journal.proofs.accept_loop.serve_streams_logged.Goals as goal
 
@@ -31,7 +31,7 @@ returns-clause-still_fits g c =
     let same_machine = goes.same_machine in
     let same_log = goes.same_log in
     let same_journal = goes.same_journal in
-    let r : Fits p.log.now (j p.journal.now) = goes.fits in
+    let r : LogFitsJournal p.log.now (j p.journal.now) = goes.fits in
     search (rules, r)
 
 pub returns-clause-goes_on : goal.returns-clause-goes_on

@@ -14,13 +14,13 @@ returns-in_err-len c = record {
 pub returns-then-piece-len : goal.returns-then-piece-len
 returns-then-piece-len c = record {
   reads_rule =
-      block_open (λ (piece : Bor (List ℕ)). piece.now) c.args.bytes.now c.args.least c.args.most c.in_ok-len.len c.first-piece.result.now c.in_ok-len.ensures.reads_rule
-      (c.first-piece.ensures.exact ∙ ap (take c.in_ok-len.len) c.after.ensures.exact) c.if-piece-len.true;
+      block_open (λ (piece : Bor (List ℕ)). piece.now) c.args.bytes.now c.args.least c.args.most c.in_ok-len.len c.first_bytes-piece.result.now c.in_ok-len.ensures.reads_rule
+      (c.first_bytes-piece.ensures.exact ∙ ap (take c.in_ok-len.len) c.bytes_after.ensures.exact) c.if-piece-len.true;
 }
 
 pub returns : goal.returns
 returns c = record {
   reads_rule =
-      block_whole c.args.bytes.now c.args.least c.args.most c.in_ok-len.len c.first-piece.result.now c.in_ok-len.ensures.reads_rule
-      (c.first-piece.ensures.exact ∙ ap (take c.in_ok-len.len) c.after.ensures.exact) c.if-piece-len.false;
+      block_whole c.args.bytes.now c.args.least c.args.most c.in_ok-len.len c.first_bytes-piece.result.now c.in_ok-len.ensures.reads_rule
+      (c.first_bytes-piece.ensures.exact ∙ ap (take c.in_ok-len.len) c.bytes_after.ensures.exact) c.if-piece-len.false;
 }

@@ -3,7 +3,7 @@ use Rattle.std.proofs.lemmas.Result.{err_from_is_err_and}
 use Rattle.xcap_io.specs.declared.streams.Failed.{Failed}
 use Rattle.edit_journal.specs.declared.read_buffer.FillResult.{FillResult}
 use Rattle.edit_journal.specs.declared.read_buffer.FillResult.TheVariants.{Some as Came, End, Beyond}
-use Rattle.edit_journal.specs.inner.ReadBuffer.{Fills}
+use Rattle.edit_journal.specs.inner.ReadBuffer.{FillsReadBuffer}
 use Rattle.edit_journal.proofs.ReplayedRequests.{replay_progress}
 use Rattle.edit_journal.proofs.Rounds.{torn_short, restarting_first, restarting_on, ready_few, restarts_whole, restarts_beyond, restarts_unread, restarts_stopped, restarts_without_memory}
 use Rattle.edit_journal.proofs.journal_restart.restart.Goals as goal
@@ -37,8 +37,8 @@ returns-in_err-fill g c = record {
   same_subject = c.reading.invariant.about;
 }
 
-pub redo_held-requires-clause-within_max : goal.redo_held-requires-clause-within_max
-redo_held-requires-clause-within_max g c =
+pub replay_buffered-requires-clause-within_max : goal.replay_buffered-requires-clause-within_max
+replay_buffered-requires-clause-within_max g c =
     ready_few g.R.Replayer.stands g.R.Replayer.refuses (record { source = g.S.Line.state c.args.source.now; journal = g.J.Journal.state c.args.journal.now; replayer = c.args.replayer.now }) (g.S.Line.state c.reading.source)
     (replay_progress c.reading.replayer (g.J.Journal.state c.reading.journal) c.reading.log c.reading.count) c.reading.read_buffer c.reading.invariant.so_far
 
@@ -47,30 +47,30 @@ reading-preserved g c = record {
   so_far =
       let s1 = g.S.Line.state c.reading.source in
       let s2 = g.S.Line.state c.fill.new.source in
-      let fills : Fills {E = Failed} c.reading.read_buffer c.fill.new.self s1.inward s2.inward (Ok Came) =
-      subst (λ (m : FillResult). Fills {E = Failed} c.reading.read_buffer c.fill.new.self s1.inward s2.inward (Ok m)) c.in-Some.is c.in_ok-fill.ensures.reads_more in
+      let fills : FillsReadBuffer {E = Failed} c.reading.read_buffer c.fill.new.self s1.inward s2.inward (Ok Came) =
+      subst (λ (m : FillResult). FillsReadBuffer {E = Failed} c.reading.read_buffer c.fill.new.self s1.inward s2.inward (Ok m)) c.in-Some.is c.in_ok-fill.ensures.reads_more in
       restarting_on g.R.Replayer.stands g.R.Replayer.refuses (record { source = g.S.Line.state c.args.source.now; journal = g.J.Journal.state c.args.journal.now; replayer = c.args.replayer.now }) s1 s2
-      (replay_progress c.reading.replayer (g.J.Journal.state c.reading.journal) c.reading.log c.reading.count) (replay_progress c.redo_held.new.replayer (g.J.Journal.state c.redo_held.new.journal) c.redo_held.new.log c.redo_held.new.count)
-      c.reading.read_buffer c.fill.new.self c.redo_held.new.read_buffer fills.0
+      (replay_progress c.reading.replayer (g.J.Journal.state c.reading.journal) c.reading.log c.reading.count) (replay_progress c.replay_buffered.new.replayer (g.J.Journal.state c.replay_buffered.new.journal) c.replay_buffered.new.log c.replay_buffered.new.count)
+      c.reading.read_buffer c.fill.new.self c.replay_buffered.new.read_buffer fills.0
       c.reading.invariant.so_far fills.2 c.in_ok-fill.ensures.only_reads.reads c.in_ok-fill.ensures.only_reads.counts fills.3 c.in_ok-fill.ensures.at_most_limit
-      c.in_ok-redo_held-in-Some.ensures.redoes_whole c.in_ok-redo_held-in-Some.ensures.torn_rest c.in_ok-redo_held-in-Some.ensures.takes_no_more;
-  about = c.in_ok-redo_held-in-Some.ensures.same_subject ∙ c.reading.invariant.about;
+      c.in_ok-replay_buffered-in-Some.ensures.redoes_whole c.in_ok-replay_buffered-in-Some.ensures.torn_rest c.in_ok-replay_buffered-in-Some.ensures.takes_no_more;
+  about = c.in_ok-replay_buffered-in-Some.ensures.same_subject ∙ c.reading.invariant.about;
 }
 
-pub returns-in_err-redo_held-in-Some : goal.returns-in_err-redo_held-in-Some
-returns-in_err-redo_held-in-Some g c = record {
+pub returns-in_err-replay_buffered-in-Some : goal.returns-in_err-replay_buffered-in-Some
+returns-in_err-replay_buffered-in-Some g c = record {
   as_specified =
-      let p = err_from_is_err_and c.from_residual-in_err-redo_held-in-Some.result c.from_residual-in_err-redo_held-in-Some.ensures.1 in
+      let p = err_from_is_err_and c.from_residual-in_err-replay_buffered-in-Some.result c.from_residual-in_err-replay_buffered-in-Some.ensures.1 in
       let s1 = g.S.Line.state c.reading.source in
       let s2 = g.S.Line.state c.fill.new.source in
-      let fills : Fills {E = Failed} c.reading.read_buffer c.fill.new.self s1.inward s2.inward (Ok Came) =
-      subst (λ (m : FillResult). Fills {E = Failed} c.reading.read_buffer c.fill.new.self s1.inward s2.inward (Ok m)) c.in-Some.is c.in_ok-fill.ensures.reads_more in
+      let fills : FillsReadBuffer {E = Failed} c.reading.read_buffer c.fill.new.self s1.inward s2.inward (Ok Came) =
+      subst (λ (m : FillResult). FillsReadBuffer {E = Failed} c.reading.read_buffer c.fill.new.self s1.inward s2.inward (Ok m)) c.in-Some.is c.in_ok-fill.ensures.reads_more in
       rw (p.1, p.2) (restarts_stopped g.R.Replayer.stands g.R.Replayer.refuses (record { source = g.S.Line.state c.args.source.now; journal = g.J.Journal.state c.args.journal.now; replayer = c.args.replayer.now }) s1 s2
-      (replay_progress c.reading.replayer (g.J.Journal.state c.reading.journal) c.reading.log c.reading.count) (replay_progress c.redo_held.new.replayer (g.J.Journal.state c.redo_held.new.journal) c.redo_held.new.log c.redo_held.new.count)
-      c.reading.read_buffer c.fill.new.self fills.0 c.in_err-redo_held-in-Some.field-0.0
+      (replay_progress c.reading.replayer (g.J.Journal.state c.reading.journal) c.reading.log c.reading.count) (replay_progress c.replay_buffered.new.replayer (g.J.Journal.state c.replay_buffered.new.journal) c.replay_buffered.new.log c.replay_buffered.new.count)
+      c.reading.read_buffer c.fill.new.self fills.0 c.in_err-replay_buffered-in-Some.field-0.0
       c.requires c.reading.invariant.so_far fills.2 c.in_ok-fill.ensures.only_reads.reads c.in_ok-fill.ensures.only_reads.counts fills.3 c.in_ok-fill.ensures.at_most_limit
-      c.in_err-redo_held-in-Some.ensures.redoes_whole);
-  same_subject = c.in_err-redo_held-in-Some.ensures.same_subject ∙ c.reading.invariant.about;
+      c.in_err-replay_buffered-in-Some.ensures.redoes_whole);
+  same_subject = c.in_err-replay_buffered-in-Some.ensures.same_subject ∙ c.reading.invariant.about;
 }
 
 pub returns-in-End : goal.returns-in-End
@@ -78,8 +78,8 @@ returns-in-End g c = record {
   as_specified =
       let s1 = g.S.Line.state c.reading.source in
       let s2 = g.S.Line.state c.fill.new.source in
-      let fills : Fills {E = Failed} c.reading.read_buffer c.fill.new.self s1.inward s2.inward (Ok End) =
-      subst (λ (m : FillResult). Fills {E = Failed} c.reading.read_buffer c.fill.new.self s1.inward s2.inward (Ok m)) c.in-End.is c.in_ok-fill.ensures.reads_more in
+      let fills : FillsReadBuffer {E = Failed} c.reading.read_buffer c.fill.new.self s1.inward s2.inward (Ok End) =
+      subst (λ (m : FillResult). FillsReadBuffer {E = Failed} c.reading.read_buffer c.fill.new.self s1.inward s2.inward (Ok m)) c.in-End.is c.in_ok-fill.ensures.reads_more in
       restarts_whole g.R.Replayer.stands g.R.Replayer.refuses (record { source = g.S.Line.state c.args.source.now; journal = g.J.Journal.state c.args.journal.now; replayer = c.args.replayer.now }) s1 s2
       (replay_progress c.reading.replayer (g.J.Journal.state c.reading.journal) c.reading.log c.reading.count) c.reading.read_buffer
       c.requires c.reading.invariant.so_far fills.0 fills.1 c.in_ok-fill.ensures.only_reads.reads c.in_ok-fill.ensures.only_reads.counts;
@@ -91,8 +91,8 @@ returns-in-Beyond g c = record {
   as_specified =
       let s1 = g.S.Line.state c.reading.source in
       let s2 = g.S.Line.state c.fill.new.source in
-      let fills : Fills {E = Failed} c.reading.read_buffer c.fill.new.self s1.inward s2.inward (Ok Beyond) =
-      subst (λ (m : FillResult). Fills {E = Failed} c.reading.read_buffer c.fill.new.self s1.inward s2.inward (Ok m)) c.in-Beyond.is c.in_ok-fill.ensures.reads_more in
+      let fills : FillsReadBuffer {E = Failed} c.reading.read_buffer c.fill.new.self s1.inward s2.inward (Ok Beyond) =
+      subst (λ (m : FillResult). FillsReadBuffer {E = Failed} c.reading.read_buffer c.fill.new.self s1.inward s2.inward (Ok m)) c.in-Beyond.is c.in_ok-fill.ensures.reads_more in
       restarts_beyond g.R.Replayer.stands g.R.Replayer.refuses (record { source = g.S.Line.state c.args.source.now; journal = g.J.Journal.state c.args.journal.now; replayer = c.args.replayer.now }) s1 s2
       (replay_progress c.reading.replayer (g.J.Journal.state c.reading.journal) c.reading.log c.reading.count) c.reading.read_buffer fills.0.0
       c.requires c.reading.invariant.so_far fills.1 fills.0.1 c.in_ok-fill.ensures.only_reads.reads c.in_ok-fill.ensures.only_reads.counts;

@@ -1,5 +1,5 @@
 use Rattle.std.proofs.Common.{not, sym, ap, ◌∙◌}
-use Rattle.xml_names.specs.Attributes.{is_written_so as is_named}
+use Rattle.xml_names.specs.Attributes.{has_qname as is_named}
 use Rattle.edit_ops.proofs.Around.{none-found}
 use Rattle.edit_ops.proofs.record_bindings.lacks_attr.Goals as goal
 

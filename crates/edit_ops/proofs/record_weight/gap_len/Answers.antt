@@ -1,6 +1,6 @@
 use Rattle.std.proofs.Common.{flat_map, ap, ◌∙◌, arith}
 use Rattle.xml_names.specs.Markup.{byte_len, print_attr}
-use Rattle.edit_ops.specs.Operations.{gap_attrs}
+use Rattle.edit_ops.specs.DiffOperations.{insertion_attrs}
 use Rattle.edit_ops.proofs.Operations.{gap-first, gap-later}
 use Rattle.edit_ops.proofs.record_weight.gap_len.Goals as goal
 
@@ -8,7 +8,7 @@ pub returns-then-gap-eq0 : goal.returns-then-gap-eq0
 returns-then-gap-eq0 c = record {
   exact =
       let p = c.args.parent.now in
-      let whole = ap (λ g. byte_len (flat_map print_attr (gap_attrs p g))) c.if-gap-eq0.true ∙ gap-first p in
+      let whole = ap (λ g. byte_len (flat_map print_attr (insertion_attrs p g))) c.if-gap-eq0.true ∙ gap-first p in
       omega (arith, whole);
 }
 

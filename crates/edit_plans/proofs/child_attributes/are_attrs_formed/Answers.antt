@@ -6,4 +6,4 @@ pub returns-in-ResourceList : goal.returns-in-ResourceList
 returns-in-ResourceList c = record { exact = list_formed c.args.tag.now.attrs c.args.kind c.in-ResourceList.is }
 
 pub returns-in_default : goal.returns-in_default
-returns-in_default c = record { exact = c.is_formed.ensures.exact ∙ attrs_decide_form c.args.kind c.args.tag.now.attrs c.args.tag.now.content c.in_default.not-ResourceList }
+returns-in_default c = record { exact = c.are_references_formed.ensures.exact ∙ attrs_decide_form c.args.kind c.args.tag.now.attrs c.args.tag.now.content c.in_default.not-ResourceList }

@@ -1,6 +1,6 @@
 use Rattle.std.proofs.Common.{IsTrue, rules}
-use Rattle.usage_docs.specs.Kinds.{kind_of_child}
-use Rattle.edit_rules.specs.Tags.{are_attrs_formed}
+use Rattle.usage_docs.specs.ElementKinds.{kind_of_child}
+use Rattle.edit_rules.specs.StartTags.{are_attrs_formed}
 use Rattle.edit_plans.proofs.TagLemmas.{by_kind}
 use Rattle.edit_plans.proofs.child_attributes.attrs_formed_in.Goals as goal
 

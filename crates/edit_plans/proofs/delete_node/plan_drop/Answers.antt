@@ -6,7 +6,7 @@ use Rattle.edit_plans.proofs.PlanTag.{drop_nothing, selected_there}
 use Rattle.edit_plans.proofs.TagLemmas.{none_at_position}
 use Rattle.xml_tree.specs.TreeScopes.{scope_at}
 use Rattle.xml_names.specs.declared.names.Attr.{Attr}
-use Rattle.node_select.specs.Selection.{is_attr}
+use Rattle.node_select.specs.Selection.{is_attr_named}
 use Rattle.edit_plans.proofs.delete_node.plan_drop.Goals as goal
 
 pub unreachable-requires : goal.unreachable-requires
@@ -24,7 +24,7 @@ returns-in_default-find_attr c = record {
       let in_scope = scope_is t e p c.in-Some-at.scope there (c.in-Some-at.ensures {u = tt}).exact in
       let place = place_is t e p c.in-Some-at.scope _ uri _ local c.find_attr.result in_scope c.as_str.ensures.same_chars c.as_str-2.ensures.same_chars
       c.find_attr.ensures.exact in
-      let none = none_at_position (is_attr (scope_at p t) uri local) e.attrs (sym place ∙ c.in_default-find_attr.is) in
+      let none = none_at_position (is_attr_named (scope_at p t) uri local) e.attrs (sym place ∙ c.in_default-find_attr.is) in
       drop_nothing c.args.usage t e c.args.selector.now p uri local c.requires.selector_end c.requires.selected there none;
 }
 

@@ -1,9 +1,9 @@
 use Rattle.std.proofs.Common.{Option, IsTrue, subst}
 use Rattle.xml_tree.specs.Tree.{child_elements_of}
-use Rattle.usage_docs.specs.declared.keys.Clash.{Clash}
-use Rattle.usage_docs.specs.readers.Siblings.{IsFirst}
+use Rattle.usage_docs.specs.declared.key_repeats.Clash.{Clash}
+use Rattle.usage_docs.specs.readers.SiblingElements.{IsFirstInOrder}
 use Rattle.edit_rules.specs.NewElements.{ClashesBeside}
-use Rattle.edit_plans.specs.inner.ChildChanges.{others}
+use Rattle.edit_plans.specs.inner.ChildChangeResults.{siblings_without}
 use Rattle.edit_plans.proofs.ParentAnswers.{judged_clash, judged_foreign, judged_ok, judged_unformed, true_false}
 use Rattle.edit_plans.proofs.TwinLemmas.{clean_others}
 use Rattle.edit_plans.proofs.insert_child.check_insertion.Goals as goal
@@ -11,14 +11,14 @@ use Rattle.edit_plans.proofs.insert_child.check_insertion.Goals as goal
 pub returns-then-not-formed : goal.returns-then-not-formed
 returns-then-not-formed c = record {
   judged_by_form =
-      let xs = others c.args.siblings.now.left_out (child_elements_of c.args.siblings.now.parent.now) in
+      let xs = siblings_without c.args.siblings.now.left_out (child_elements_of c.args.siblings.now.parent.now) in
       judged_unformed (IsTrue c.args.formed) c.args.row c.args.scope.now xs c.args.new.now c.args.place.now c.args.gap (λ f. true_false c.args.formed f c.if-not-formed.true);
 }
 
 pub returns-in_default : goal.returns-in_default
 returns-in_default c = record {
   judged_by_form =
-      let xs = others c.args.siblings.now.left_out (child_elements_of c.args.siblings.now.parent.now) in
+      let xs = siblings_without c.args.siblings.now.left_out (child_elements_of c.args.siblings.now.parent.now) in
       judged_foreign (IsTrue c.args.formed) c.args.row c.args.scope.now xs c.args.new.now c.args.place.now c.args.gap c.in_default.is c.if-not-formed.false;
 }
 
@@ -29,15 +29,15 @@ first_clash_beside-requires-clause-no_clash c =
 pub returns-in-Some-first_clash_beside : goal.returns-in-Some-first_clash_beside
 returns-in-Some-first_clash_beside c = record {
   judged_by_form =
-      let xs = others c.args.siblings.now.left_out (child_elements_of c.args.siblings.now.parent.now) in
-      let first = subst (λ (o : Option Clash). IsFirst (ClashesBeside (record { kind = c.in-Some.kind; scope = c.args.scope.now; elements = xs }) c.args.new.now c.args.gap) c.args.place.now o) c.in-Some-first_clash_beside.is c.first_clash_beside.ensures.first_of_clashes in
+      let xs = siblings_without c.args.siblings.now.left_out (child_elements_of c.args.siblings.now.parent.now) in
+      let first = subst (λ (o : Option Clash). IsFirstInOrder (ClashesBeside (record { kind = c.in-Some.kind; scope = c.args.scope.now; elements = xs }) c.args.new.now c.args.gap) c.args.place.now o) c.in-Some-first_clash_beside.is c.first_clash_beside.ensures.first_of_clashes in
       judged_clash (IsTrue c.args.formed) c.args.row c.args.scope.now xs c.args.new.now c.args.place.now c.args.gap c.in-Some.kind c.in-Some-first_clash_beside.clash c.in-Some.is c.if-not-formed.false first;
 }
 
 pub returns-in-None : goal.returns-in-None
 returns-in-None c = record {
   judged_by_form =
-      let xs = others c.args.siblings.now.left_out (child_elements_of c.args.siblings.now.parent.now) in
-      let first = subst (λ (o : Option Clash). IsFirst (ClashesBeside (record { kind = c.in-Some.kind; scope = c.args.scope.now; elements = xs }) c.args.new.now c.args.gap) c.args.place.now o) c.in-None.is c.first_clash_beside.ensures.first_of_clashes in
+      let xs = siblings_without c.args.siblings.now.left_out (child_elements_of c.args.siblings.now.parent.now) in
+      let first = subst (λ (o : Option Clash). IsFirstInOrder (ClashesBeside (record { kind = c.in-Some.kind; scope = c.args.scope.now; elements = xs }) c.args.new.now c.args.gap) c.args.place.now o) c.in-None.is c.first_clash_beside.ensures.first_of_clashes in
       judged_ok (IsTrue c.args.formed) c.args.row c.args.scope.now xs c.args.new.now c.args.place.now c.args.gap c.in-Some.kind c.in-Some.is c.if-not-formed.false first;
 }

@@ -1,6 +1,6 @@
 use Rattle.std.proofs.Common.{IsTrue}
 use Rattle.xml_tree.specs.Tree.{child_elements_of}
-use Rattle.edit_plans.specs.inner.ChildChanges.{FormedIn, others}
+use Rattle.edit_plans.specs.inner.ChildChangeResults.{HasFormedReferences, siblings_without}
 use Rattle.edit_plans.proofs.ParentAnswers.{judged_by}
 use Rattle.edit_plans.proofs.insert_child.check_new_child.Goals as goal
 
@@ -12,8 +12,8 @@ returns c = record {
       let new = c.args.new.now in
       let q = c.args.place.now in
       let gap = c.args.gap in
-      let xs = others c.args.siblings.now.left_out (child_elements_of c.args.siblings.now.parent.now) in
+      let xs = siblings_without c.args.siblings.now.left_out (child_elements_of c.args.siblings.now.parent.now) in
       let F = IsTrue c.is_formed_in-formed.result in
-      let G = FormedIn row scope new in
+      let G = HasFormedReferences row scope new in
       judged_by F G row scope xs new q gap c.check_insertion.result c.is_formed_in-formed.ensures.exact c.check_insertion.ensures.judged_by_form;
 }

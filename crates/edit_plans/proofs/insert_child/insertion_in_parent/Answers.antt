@@ -1,6 +1,6 @@
 use Rattle.std.proofs.Common.{◌∙◌, ap, ℕ, List, Result, Err, subst}
 use Rattle.xml_tree.specs.Tree.{Tree}
-use Rattle.edit_plans.specs.inner.ChildChanges.{FormedIn, IsJudgedIn}
+use Rattle.edit_plans.specs.inner.ChildChangeResults.{HasFormedReferences, IsNewChildResult}
 use Rattle.edit_plans.specs.declared.insertion_points.NoInsertionPoint.{NoInsertionPoint}
 use Rattle.edit_plans.proofs.ParentAnswers.{Chosen, placed_invalid, placed_ok, placed_unlawful}
 use Rattle.edit_plans.proofs.SiblingLemmas.{others_all}
@@ -14,7 +14,7 @@ returns-in-Ok c = record {
       let scope = c.args.scope.now in
       let new = c.args.new.now in
       let q = c.args.place.now in
-      let check_insertion = subst (λ (xs : List Tree). IsJudgedIn (FormedIn row scope new) (record { kind = row; scope = scope; elements = xs; path = q }) new c.in-Ok.gap c.check_new_child.result)
+      let check_insertion = subst (λ (xs : List Tree). IsNewChildResult (HasFormedReferences row scope new) (record { kind = row; scope = scope; elements = xs; path = q }) new c.in-Ok.gap c.check_new_child.result)
       (others_all c.all.result c.args.parent.now c.all.ensures.same_parent c.all.ensures.leaves_out_none) c.check_new_child.ensures.judged_by_rules in
       placed_ok row scope c.args.step.now c.args.parent.now new q c.in-Ok.gap c.check_new_child.result chosen check_insertion;
 }

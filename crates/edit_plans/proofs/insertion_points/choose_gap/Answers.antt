@@ -1,14 +1,14 @@
 use Rattle.xml_tree.specs.Tree.{child_elements_of}
 use Rattle.node_select.specs.Selection.{is_named, is_tested}
-use Rattle.edit_plans.specs.inner.Neighbours.{FitsIn}
+use Rattle.edit_plans.specs.inner.Neighbours.{FitsInsertionPoint}
 use Rattle.edit_plans.specs.declared.insertion_points.NoInsertionPoint.TheVariants.{Unlawful, Invalid}
 use Rattle.edit_plans.proofs.ParentAnswers.{true_false}
 use Rattle.edit_plans.proofs.SideLemmas.{not_free}
 use Rattle.edit_plans.proofs.insertion_points.choose_gap.Goals as goal
 
-pub returns-then-not-is_free : goal.returns-then-not-is_free
-returns-then-not-is_free c = record {
+pub returns-then-not-can_be_selected : goal.returns-then-not-can_be_selected
+returns-then-not-can_be_selected c = record {
   lawful_plan =
-      not_free Unlawful Invalid (is_named c.args.scope.now c.args.step.now) (is_tested c.args.scope.now c.args.step.now) c.args.step.now.position (child_elements_of c.args.parent.now) c.args.new.now (FitsIn c.args.row c.args.scope.now c.args.parent.now.content c.args.new.now)
-      (λ f. true_false c.is_free.result (c.is_free.ensures.exact.1 f) c.if-not-is_free.true);
+      not_free Unlawful Invalid (is_named c.args.scope.now c.args.step.now) (is_tested c.args.scope.now c.args.step.now) c.args.step.now.position (child_elements_of c.args.parent.now) c.args.new.now (FitsInsertionPoint c.args.row c.args.scope.now c.args.parent.now.content c.args.new.now)
+      (λ f. true_false c.can_be_selected.result (c.can_be_selected.ensures.exact.1 f) c.if-not-can_be_selected.true);
 }

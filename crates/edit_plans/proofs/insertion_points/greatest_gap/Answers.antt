@@ -1,14 +1,14 @@
 use Rattle.xml_tree.specs.Tree.{child_elements_of}
 use Rattle.node_select.specs.Selection.{is_named, is_tested}
-use Rattle.edit_plans.specs.inner.Neighbours.{FitsIn}
+use Rattle.edit_plans.specs.inner.Neighbours.{FitsInsertionPoint}
 use Rattle.edit_plans.specs.declared.insertion_points.NoInsertionPoint.TheVariants.{Unlawful, Invalid}
 use Rattle.edit_plans.proofs.SideLemmas.{last_of_all}
 use Rattle.edit_plans.proofs.insertion_points.greatest_gap.Goals as goal
 
-pub returns-then-takes_last : goal.returns-then-takes_last
-returns-then-takes_last c = record {
+pub returns-then-takes_last_gap : goal.returns-then-takes_last_gap
+returns-then-takes_last_gap c = record {
   lawful_plan =
-      let last = c.takes_last.ensures.fits_any_order c.if-takes_last.true in
-      last_of_all Unlawful Invalid (is_named c.args.scope.now c.args.step.now) (is_tested c.args.scope.now c.args.step.now) c.args.step.now.position (child_elements_of c.args.parent.now) c.args.new.now (FitsIn c.args.row c.args.scope.now c.args.parent.now.content c.args.new.now) c.count_children-many.result
+      let last = c.takes_last_gap.ensures.fits_any_order c.if-takes_last_gap.true in
+      last_of_all Unlawful Invalid (is_named c.args.scope.now c.args.step.now) (is_tested c.args.scope.now c.args.step.now) c.args.step.now.position (child_elements_of c.args.parent.now) c.args.new.now (FitsInsertionPoint c.args.row c.args.scope.now c.args.parent.now.content c.args.new.now) c.count_children-many.result
       c.count_children-many.ensures.exact last.0 c.requires.name_matches c.requires.test_matches c.requires.position_free last.1;
 }

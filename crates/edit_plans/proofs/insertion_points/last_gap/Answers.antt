@@ -1,11 +1,11 @@
 use Rattle.std.proofs.Common.{◌≡◌, ◌+◌, ℕ, Bool, suc, cond, sym, ap, ◌∙◌, add-one, arith}
-use Rattle.node_select.specs.InsertionPoints.{IsLawfulInsertion, plan_with}
+use Rattle.node_select.specs.InsertionPoints.{IsLawfulInsertion, plan_with_gap}
 use Rattle.node_select.proofs.GapPlans.{plan_more}
 use Rattle.xml_tree.specs.Tree.{child_elements_of}
 use Rattle.node_select.specs.Selection.{is_named, is_tested}
 use Rattle.node_select.proofs.NodeWalks.{at_elem, at_other, at_end, count_next, at_most_one, no_element}
-use Rattle.usage_docs.specs.readers.Parts.{end}
-use Rattle.edit_plans.specs.inner.Neighbours.{FitsIn}
+use Rattle.usage_docs.specs.readers.ContentParts.{end_part}
+use Rattle.edit_plans.specs.inner.Neighbours.{FitsInsertionPoint}
 use Rattle.edit_plans.specs.declared.insertion_points.NoInsertionPoint.TheVariants.{Unlawful, Invalid}
 use Rattle.edit_plans.proofs.SideLemmas.{after_kid, before_kid, end_behind, fits_is, lawful_here, plan_at}
 use Rattle.edit_plans.proofs.insertion_points.last_gap.Goals as goal
@@ -31,15 +31,15 @@ loop-node-preserved c =
           let part = w.part_in-next.ensures.child_part in
           let step : c.match-node.i ≡ suc i = w.i-is ∙ add-one i in
           let lawful = lawful_here named tested c.args.step.now.position xs new i c.loop-node.before w.is_at_position-lawful.result inv.within c.requires.name_matches c.requires.test_matches c.requires.position_free inv.counted w.is_at_position-lawful.ensures.exact in
-          let valid = fits_is c.args.row scope content new i c.args.itself w.fits-valid.result c.loop-node.prev c.part_in-part.result w.part_in-next.result c.requires.itself_valid c.part_in-part.ensures.child_part inv.prev (after_kid c.args.row scope content i child_element w.part_in-next.result at.0 part) w.fits-valid.ensures.exact in
+          let valid = fits_is c.args.row scope content new i c.args.itself w.may_stand_between-valid.result c.loop-node.prev c.part_in-part.result w.part_in-next.result c.requires.itself_valid c.part_in-part.ensures.child_part inv.prev (after_kid c.args.row scope content i child_element w.part_in-next.result at.0 part) w.may_stand_between-valid.ensures.exact in
           record {
             left = rw (w.i-is, add-one, add-one) at.2;
             within = omega arith;
             small = omega arith;
-            counted = count_next named xs i c.match-node.i c.loop-node.before c.match-node.before child_element at.0 at.1 inv.counted w.i-is (w.before-is ∙ w.count-before.ensures.counts_one_more ∙ ap one_more w.names.ensures.passes_name_test);
-            few = omega (arith, w.before-is, w.count-before.ensures.counts_one_more, at_most_one w.names.result);
+            counted = count_next named xs i c.match-node.i c.loop-node.before c.match-node.before child_element at.0 at.1 inv.counted w.i-is (w.before-is ∙ w.count_if-before.ensures.counts_one_more ∙ ap one_more w.matches_name.ensures.passes_name_test);
+            few = omega (arith, w.before-is, w.count_if-before.ensures.counts_one_more, at_most_one w.matches_name.result);
             prev = before_kid c.args.row scope content i c.match-node.i child_element c.match-node.prev step at.0 (w.prev-is ∙ part);
-            plan = plan_at Unlawful Invalid (IsLawfulInsertion named tested c.args.step.now.position xs new) (FitsIn c.args.row scope content new) (i + 1) c.match-node.i (plan_with Invalid c.loop-node.answer i w.is_at_position-lawful.result w.fits-valid.result) c.match-node.answer w.i-is (w.answer-is ∙ w.with_gap-answer.ensures.exact) (plan_more Unlawful Invalid (IsLawfulInsertion named tested c.args.step.now.position xs new) (FitsIn c.args.row scope content new) i c.loop-node.answer w.is_at_position-lawful.result w.fits-valid.result inv.plan lawful valid);
+            plan = plan_at Unlawful Invalid (IsLawfulInsertion named tested c.args.step.now.position xs new) (FitsInsertionPoint c.args.row scope content new) (i + 1) c.match-node.i (plan_with_gap Invalid c.loop-node.answer i w.is_at_position-lawful.result w.may_stand_between-valid.result) c.match-node.answer w.i-is (w.answer-is ∙ w.gap_or_refusal-answer.ensures.exact) (plan_more Unlawful Invalid (IsLawfulInsertion named tested c.args.step.now.position xs new) (FitsInsertionPoint c.args.row scope content new) i c.loop-node.answer w.is_at_position-lawful.result w.may_stand_between-valid.result inv.plan lawful valid);
           })
       | in_default w ↦
           (record {
@@ -49,7 +49,7 @@ loop-node-preserved c =
             counted = rw (w.i-is, w.before-is) inv.counted;
             few = omega arith;
             prev = rw (w.i-is, w.prev-is) inv.prev;
-            plan = plan_at Unlawful Invalid (IsLawfulInsertion named tested c.args.step.now.position xs new) (FitsIn c.args.row scope content new) i c.match-node.i c.loop-node.answer c.match-node.answer w.i-is w.answer-is inv.plan;
+            plan = plan_at Unlawful Invalid (IsLawfulInsertion named tested c.args.step.now.position xs new) (FitsInsertionPoint c.args.row scope content new) i c.match-node.i c.loop-node.answer c.match-node.answer w.i-is w.answer-is inv.plan;
           })
     ]
 
@@ -66,7 +66,7 @@ returns c = record {
       let i = c.loop-node.i in
       let last = at_end c.nodes-node-items.result.now c.loop-node.node-index i xs inv.left c.loop-node-test.false inv.within in
       let lawful = lawful_here named tested c.args.step.now.position xs new i c.loop-node.before c.is_at_position-lawful-2.result inv.within c.requires.name_matches c.requires.test_matches c.requires.position_free inv.counted c.is_at_position-lawful-2.ensures.exact in
-      let valid = fits_is c.args.row scope content new i c.args.itself c.fits-valid-2.result c.loop-node.prev c.part_in-part.result end c.requires.itself_valid c.part_in-part.ensures.child_part inv.prev (end_behind c.args.row scope content i last) c.fits-valid-2.ensures.exact in
-      plan_at Unlawful Invalid (IsLawfulInsertion named tested c.args.step.now.position xs new) (FitsIn c.args.row scope content new) (i + 1) _ (plan_with Invalid c.loop-node.answer i c.is_at_position-lawful-2.result c.fits-valid-2.result) c.with_gap.result (ap (λ (n : ℕ). n + 1) (sym last)) c.with_gap.ensures.exact
-      (plan_more Unlawful Invalid (IsLawfulInsertion named tested c.args.step.now.position xs new) (FitsIn c.args.row scope content new) i c.loop-node.answer c.is_at_position-lawful-2.result c.fits-valid-2.result inv.plan lawful valid);
+      let valid = fits_is c.args.row scope content new i c.args.itself c.may_stand_between-valid-2.result c.loop-node.prev c.part_in-part.result end_part c.requires.itself_valid c.part_in-part.ensures.child_part inv.prev (end_behind c.args.row scope content i last) c.may_stand_between-valid-2.ensures.exact in
+      plan_at Unlawful Invalid (IsLawfulInsertion named tested c.args.step.now.position xs new) (FitsInsertionPoint c.args.row scope content new) (i + 1) _ (plan_with_gap Invalid c.loop-node.answer i c.is_at_position-lawful-2.result c.may_stand_between-valid-2.result) c.gap_or_refusal.result (ap (λ (n : ℕ). n + 1) (sym last)) c.gap_or_refusal.ensures.exact
+      (plan_more Unlawful Invalid (IsLawfulInsertion named tested c.args.step.now.position xs new) (FitsInsertionPoint c.args.row scope content new) i c.loop-node.answer c.is_at_position-lawful-2.result c.may_stand_between-valid-2.result inv.plan lawful valid);
 }

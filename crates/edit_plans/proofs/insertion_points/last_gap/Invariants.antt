@@ -4,8 +4,8 @@ use Rattle.node_select.specs.InsertionPoints.{IsLawfulInsertion, IsInsertionPlan
 use Rattle.xml_tree.specs.Tree.{child_elements, child_elements_of}
 use Rattle.xml_tree.specs.Nodes.{content_of}
 use Rattle.node_select.specs.Selection.{is_named, is_tested}
-use Rattle.usage_docs.specs.readers.Gaps.{part_before}
-use Rattle.edit_plans.specs.inner.Neighbours.{FitsIn}
+use Rattle.usage_docs.specs.readers.NeighbourParts.{part_before}
+use Rattle.edit_plans.specs.inner.Neighbours.{FitsInsertionPoint}
 use Rattle.edit_plans.specs.declared.insertion_points.NoInsertionPoint.TheVariants.{Unlawful, Invalid}
 use Rattle.edit_plans.proofs.insertion_points.last_gap.Given as goal
 
@@ -17,5 +17,5 @@ invariant-loop-node l = record {
   counted : l.before ≡ count_by (is_named l.scope l.step) (take l.i (child_elements_of l.parent));
   few : l.before ≤ l.i;
   prev : ForSome l.row (λ kind. l.prev ≡ part_before kind l.scope 0 l.i l.parent.content);
-  plan : IsInsertionPlan Unlawful Invalid (IsLawfulInsertion (is_named l.scope l.step) (is_tested l.scope l.step) l.step.position (child_elements_of l.parent) l.new) (FitsIn l.row l.scope l.parent.content l.new) l.i l.answer;
+  plan : IsInsertionPlan Unlawful Invalid (IsLawfulInsertion (is_named l.scope l.step) (is_tested l.scope l.step) l.step.position (child_elements_of l.parent) l.new) (FitsInsertionPoint l.row l.scope l.parent.content l.new) l.i l.answer;
 }

@@ -1,5 +1,5 @@
 use Rattle.std.proofs.Common.{◌≡◌, drop, find}
-use Rattle.edit_rules.specs.Attributes.{is_binding}
+use Rattle.edit_rules.specs.AttributePuts.{is_binding}
 use Rattle.edit_plans.proofs.put_attribute.bound_prefix.Given as goal
 
 abbrev pub invariant-loop-decl : goal.invariant-loop-decl

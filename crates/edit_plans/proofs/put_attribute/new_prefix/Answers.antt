@@ -1,9 +1,9 @@
 use Rattle.std.proofs.Common.{◌≡◌, ℕ, Bool, true, false, if◌then◌else◌, List, [], Option, Some, bytes_eq, find, option_map, IfOk, refl, sym, ap, ◌∙◌, subst}
 use Rattle.std.proofs.lemmas.Str.{chars-nil}
 use Rattle.std.specs.Str.{chars}
-use Rattle.xml_names.specs.Scopes.{bindings_in, xml_prefix, xml_uri}
+use Rattle.xml_names.specs.Scopes.{in_scope_bindings, xml_prefix, xml_uri}
 use Rattle.xml_names.specs.declared.names.Decl.{Decl}
-use Rattle.edit_rules.specs.Attributes.{is_binding, new_prefix}
+use Rattle.edit_rules.specs.AttributePuts.{is_binding, new_prefix}
 use Rattle.edit_plans.proofs.put_attribute.new_prefix.Goals as goal
 
 letters : chars xml_prefix ≡ xml_prefix
@@ -12,7 +12,7 @@ letters = refl
 
 module _ (c : List (List Decl)) (uri : List ℕ) where
   abbrev other : Option (List ℕ)
-  other = option_map (λ d. d.prefix) (find (is_binding uri) (bindings_in c))
+  other = option_map (λ d. d.prefix) (find (is_binding uri) (in_scope_bindings c))
 
   no_space : bytes_eq uri [] ≡ true → Some [] ≡ new_prefix c uri
   no_space none = sym (ap (λ (b : Bool). if b then Some [] else if bytes_eq uri xml_uri then Some xml_prefix else other) none)

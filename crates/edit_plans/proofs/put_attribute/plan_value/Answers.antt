@@ -3,7 +3,7 @@ use Rattle.std.proofs.lemmas.Option.{same_Some}
 use Rattle.xml_tree.specs.Tree.{Tree, at}
 use Rattle.xml_tree.specs.TreeScopes.{scope_at}
 use Rattle.xml_names.specs.declared.names.Decl.{Decl}
-use Rattle.edit_rules.specs.Attributes.{written_name}
+use Rattle.edit_rules.specs.AttributePuts.{written_name}
 use Rattle.edit_plans.proofs.PlanTag.{selected_there, value_plan}
 use Rattle.edit_plans.proofs.put_attribute.plan_value.Goals as goal
 

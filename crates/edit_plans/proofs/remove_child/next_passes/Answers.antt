@@ -16,8 +16,8 @@ returns-then-is_next c = record {
       let inv = c.loop-node.invariant in
       let at = at_elem c.nodes-node-items.result.now c.loop-node.node-index c.loop-node.i xs c.in-Elem.child_element c.node-item.result inv.left c.loop-node-test.true c.node-item.is c.in-Elem.is in
       let both = c.is_next.ensures.exact.0 c.if-is_next.true in (
-        λ h. next_is named tested xs c.args.child c.loop-node.i c.in-Elem.child_element both.0 at.0 both.1 inv.none (sym c.tests.ensures.passes_attribute_test ∙ h),
-        λ m. c.tests.ensures.passes_attribute_test ∙ next_tested named tested xs c.args.child c.loop-node.i c.in-Elem.child_element both.0 at.0 both.1 inv.none m,
+        λ h. next_is named tested xs c.args.child c.loop-node.i c.in-Elem.child_element both.0 at.0 both.1 inv.none (sym c.matches_test.ensures.passes_attribute_test ∙ h),
+        λ m. c.matches_test.ensures.passes_attribute_test ∙ next_tested named tested xs c.args.child c.loop-node.i c.in-Elem.child_element both.0 at.0 both.1 inv.none m,
       );
 }
 

@@ -1,6 +1,6 @@
 use Rattle.std.proofs.Common.{◌≡◌, ◌++◌, ℕ, List, [], IfOk, codes, encode_utf8_all, subst, ap, ◌∙◌}
 use Rattle.xml_tree.specs.Tree.{Tree}
-use Rattle.doc_names.specs.Ids.{id_text}
+use Rattle.doc_names.specs.DocIds.{id_text}
 use Rattle.xml_tree.specs.Print.{document_print}
 use Rattle.patch_rules.specs.Notices.{diff}
 use Rattle.element_watch.proofs.BuiltElements.{notice_is}

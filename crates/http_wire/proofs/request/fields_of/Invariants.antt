@@ -1,6 +1,6 @@
 use Rattle.std.proofs.Common.{◌≡◌, map, take}
 use Rattle.httparse.specs.Spans.{header_bytes}
-use Rattle.http_wire.specs.Items.{field_of}
+use Rattle.http_wire.specs.ConnectionItems.{field_of}
 use Rattle.http_wire.proofs.request.fields_of.Given as goal
 
 abbrev pub invariant-fields : goal.invariant-fields

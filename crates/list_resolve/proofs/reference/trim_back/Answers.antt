@@ -1,6 +1,6 @@
 use Rattle.std.proofs.Common.{sym, ap, ◌∙◌}
 use Rattle.xml_names.specs.Characters.{is_space}
-use Rattle.usage_docs.specs.Forms.{trim_back}
+use Rattle.usage_docs.specs.ReferenceForms.{trim_back}
 use Rattle.list_resolve.proofs.Texts.{back_white, back_other}
 use Rattle.list_resolve.proofs.reference.trim_back.Goals as goal
 

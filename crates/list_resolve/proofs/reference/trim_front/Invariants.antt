@@ -1,6 +1,6 @@
 use Rattle.std.proofs.Common.{◌≡◌, length}
 use Rattle.xml_names.specs.Characters.{is_space}
-use Rattle.usage_docs.specs.Forms.{trim_front}
+use Rattle.usage_docs.specs.ReferenceForms.{trim_front}
 use Rattle.list_resolve.proofs.reference.trim_front.Given as goal
 
 abbrev pub invariant-blanks : goal.invariant-blanks

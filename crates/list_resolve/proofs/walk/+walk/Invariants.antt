@@ -1,9 +1,9 @@
 use Rattle.std.proofs.Common.{◌≡◌, ◌*◌, ◌+◌, drop}
 use Rattle.xml_tree.specs.Tree.{height}
-use Rattle.list_resolve.specs.Walks.{walk_after, walked}
+use Rattle.list_resolve.specs.Walks.{walk_after_mark, content_items}
 use Rattle.list_resolve.specs.inner.WalkStates.{with_items}
-use Rattle.list_resolve.specs.inner.SkippedElements.{IsSound, reference_resolved_in}
-use Rattle.list_resolve.specs.inner.Views.{context_in}
+use Rattle.list_resolve.specs.inner.SkippedElements.{HasSoundPlaces, resolve_in_context}
+use Rattle.list_resolve.specs.inner.Views.{context_view}
 use Rattle.list_resolve.proofs.Walks.{nodes_items}
 use Rattle.list_resolve.proofs.walk.+walk.Given as goal
 
@@ -21,22 +21,22 @@ decreases-walk_element l = 300 * l.left + 3 * height l.element.now + 1
 abbrev pub decreases-walk_reference : goal.decreases-walk_reference
 decreases-walk_reference l = 300 * l.left + 3 * height l.element.now
 
-abbrev pub decreases-walk_after : goal.decreases-walk_after
-decreases-walk_after l = 300 * l.left + 2
+abbrev pub decreases-walk_after_mark : goal.decreases-walk_after_mark
+decreases-walk_after_mark l = 300 * l.left + 2
 
 abbrev pub decreases-walk_resolved_reference : goal.decreases-walk_resolved_reference
 decreases-walk_resolved_reference l = 300 * l.left + 299
 
-abbrev pub decreases-walk_once : goal.decreases-walk_once
-decreases-walk_once l = 300 * l.left + 298
+abbrev pub decreases-walk_unless_passed : goal.decreases-walk_unless_passed
+decreases-walk_unless_passed l = 300 * l.left + 298
 
-abbrev pub decreases-walk_longer : goal.decreases-walk_longer
-decreases-walk_longer l = 300 * l.left + 297
+abbrev pub decreases-walk_with_place : goal.decreases-walk_with_place
+decreases-walk_with_place l = 300 * l.left + 297
 
 abbrev pub invariant-walk_inside-loop-node : goal.invariant-walk_inside-loop-node
 invariant-walk_inside-loop-node l =
     record {
-      gathered : with_items l.collector.tally (nodes_items (walk_after (reference_resolved_in (context_in l.ground)) l.ground.root.now l.left l.chain) l.ground.root.now l.row l.scope (drop l.node-index l.node-items))
-          ≡ with_items l.initial.collector.tally (walked (walk_after (reference_resolved_in (context_in l.ground)) l.ground.root.now l.left l.chain) l.ground.root.now l.row l.scope l.element.content);
-      sound : IsSound (context_in l.ground) l.collector;
+      gathered : with_items l.collector.tally (nodes_items (walk_after_mark (resolve_in_context (context_view l.ground)) l.ground.root.now l.left l.chain) l.ground.root.now l.row l.scope (drop l.node-index l.node-items))
+          ≡ with_items l.initial.collector.tally (content_items (walk_after_mark (resolve_in_context (context_view l.ground)) l.ground.root.now l.left l.chain) l.ground.root.now l.row l.scope l.element.content);
+      sound : HasSoundPlaces (context_view l.ground) l.collector;
     }

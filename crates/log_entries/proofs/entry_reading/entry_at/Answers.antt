@@ -20,5 +20,5 @@ returns c =
     record {
       exact =
           rw (short, same)
-          (c.entry_of_length.ensures.exact ∙ ap (entry_of_length c.args.mark.now bytes) (c.u32_of.ensures.exact ∙ ap (λ (l : List ℕ). from_be_bytes w32 (take 4 l)) (all_after bytes 8)));
+          (c.entry_of_length.ensures.exact ∙ ap (entry_of_length c.args.mark.now bytes) (c.read_u32.ensures.exact ∙ ap (λ (l : List ℕ). from_be_bytes w32 (take 4 l)) (all_after bytes 8)));
     }

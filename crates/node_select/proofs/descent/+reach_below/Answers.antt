@@ -41,7 +41,7 @@ returns t c = record {
       let made : Reached = record { steps = 1 + below.steps; path = below.path } in
       let there : slice_get child_elements c.in-Some.child ≡ Some child_element = sym c.child_element.ensures.exact ∙ ap option_copied c.in-Some-child_element.is in
       let one : selected_child scope c.step-item.result child_elements ≡ Some c.in-Some.child = sym c.select_child.ensures.exact ∙ c.in-Some.is in
-      let scope_is : c.inside-inside.result ≡ inside scope child_element = c.inside-inside.ensures.adds_declarations ∙ ap (λ (ds : List Decl). scope ++ ds ∷ []) (c.declared_in-declared.ensures.holds_declarations ∙ c.decls.ensures.exact) in
+      let scope_is : c.inside-inside.result ≡ inside scope child_element = c.inside-inside.ensures.adds_declarations ∙ ap (λ (ds : List Decl). scope ++ ds ∷ []) (c.index_decls-declared.ensures.holds_declarations ∙ c.decls.ensures.exact) in
       let on = subst (λ (b : List ℕ). ReachesBelow (inside scope child_element) (child_elements_of child_element) rest b below) (c.in-Some-child.ensures {u = tt}).child_path
       (subst (λ (d : List (List Decl)). ReachesBelow d (child_elements_of child_element) rest c.in-Some-child.longer below) scope_is c.reach_below-below.ensures.reaches_below) in
       subst (λ (l : List Step). ReachesBelow scope child_elements l c.args.path made) (sym (first_and_rest steps c.step-item.result c.in-len1-up.len_at_least c.step-item.is))

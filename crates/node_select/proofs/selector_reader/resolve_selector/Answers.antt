@@ -2,9 +2,9 @@ use Rattle.std.proofs.Common.{ℕ, List, subst, sym, ap, map}
 use Rattle.std.proofs.lemmas.Result.{err_from_is_err_and}
 use Rattle.node_select.specs.declared.selector.Step.{Step}
 use Rattle.node_select.specs.declared.name_resolution.Unresolved.{Unresolved}
-use Rattle.node_select.specs.readers.NameResolution.{Fails}
-use Rattle.node_select.specs.readers.Raw.{RawStep, unbound_end, unbound_from}
-use Rattle.node_select.specs.readers.Views.{end_in, step_in}
+use Rattle.node_select.specs.readers.NameResolution.{IsUnresolvedAt}
+use Rattle.node_select.specs.readers.RawSelectors.{RawStep, unbound_end, unbound_in_steps}
+use Rattle.node_select.specs.readers.Views.{end_view, step_view}
 use Rattle.node_select.proofs.UnboundPlaces.{steps_fail, end_fails}
 use Rattle.node_select.proofs.selector_reader.resolve_selector.Goals as goal
 
@@ -13,10 +13,10 @@ returns-in_err-steps c = record {
   means_selector =
       let p = err_from_is_err_and c.from_residual.result c.from_residual.ensures.1 in
       let b = c.indexed_decls-indexed_decls.result in
-      let end = unbound_end b (end_in c.args.raw.now.end) in
+      let end = unbound_end b (end_view c.args.raw.now.end) in
       let why : Unresolved = c.in_err-steps.field-0.0 in
-      rw (p.1, p.2, sym c.indexed_decls-indexed_decls.ensures.declares_bindings) (subst (λ (ss : List RawStep). Fails (unbound_from b 0 ss end) why) (ap (map step_in) c.deref.ensures.value)
-      (steps_fail b 0 (map step_in c.deref.result.now) end c.in_err-steps.field-0.0 (c.in_err-steps.ensures {u = tt}).means_steps));
+      rw (p.1, p.2, sym c.indexed_decls-indexed_decls.ensures.declares_bindings) (subst (λ (ss : List RawStep). IsUnresolvedAt (unbound_in_steps b 0 ss end) why) (ap (map step_view) c.deref.ensures.value)
+      (steps_fail b 0 (map step_view c.deref.result.now) end c.in_err-steps.field-0.0 (c.in_err-steps.ensures {u = tt}).means_steps));
 }
 
 pub returns-in_err-end : goal.returns-in_err-end
@@ -24,9 +24,9 @@ returns-in_err-end c = record {
   means_selector =
       let p = err_from_is_err_and c.from_residual-in_err-end.result c.from_residual-in_err-end.ensures.1 in
       let b = c.indexed_decls-indexed_decls.result in
-      let end = unbound_end b (end_in c.args.raw.now.end) in
+      let end = unbound_end b (end_view c.args.raw.now.end) in
       let why : Unresolved = c.in_err-end.field-0.0 in
       let done = (c.in_ok-steps.ensures {u = tt}).means_steps in
-      rw (p.1, p.2, sym c.indexed_decls-indexed_decls.ensures.declares_bindings) (subst (λ (ss : List RawStep). Fails (unbound_from b 0 ss end) why) (ap (map step_in) c.deref.ensures.value)
-      (end_fails b 0 c.in_ok-steps.at (map step_in c.deref.result.now) end c.in_err-end.field-0.0 done.0 (ap (λ (z : List Step × ℕ). z.1) done.1) (c.in_err-end.ensures {u = tt}).means_end));
+      rw (p.1, p.2, sym c.indexed_decls-indexed_decls.ensures.declares_bindings) (subst (λ (ss : List RawStep). IsUnresolvedAt (unbound_in_steps b 0 ss end) why) (ap (map step_view) c.deref.ensures.value)
+      (end_fails b 0 c.in_ok-steps.at (map step_view c.deref.result.now) end c.in_err-end.field-0.0 done.0 (ap (λ (z : List Step × ℕ). z.1) done.1) (c.in_err-end.ensures {u = tt}).means_end));
 }

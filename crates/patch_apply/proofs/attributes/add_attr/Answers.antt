@@ -15,12 +15,12 @@ returns-then-has_attr_at c = record {
       (sym c.has_attr_at.ensures.exact ∙ c.if-has_attr_at.true);
 }
 
-pub returns-then-not-attr_alike_at : goal.returns-then-not-attr_alike_at
-returns-then-not-attr_alike_at c = record {
+pub returns-then-not-attr_names_agree_at : goal.returns-then-not-attr_names_agree_at
+returns-then-not-attr_names_agree_at c = record {
   as_specified =
       attr_unlike c.args.path.now c.args.operation.now.content c.args.tree.now c.requires.place_exists c.requires.height_bounded c.args.here.now c.args.name c.in-Some.value
       (sym c.in_ok-found.ensures.ok ∙ c.in-Some.is) (sym c.has_attr_at.ensures.exact ∙ c.if-has_attr_at.false)
-      (sym c.attr_alike_at.ensures.exact ∙ c.if-not-attr_alike_at.true);
+      (sym c.attr_names_agree_at.ensures.exact ∙ c.if-not-attr_names_agree_at.true);
 }
 
 pub returns : goal.returns
@@ -28,6 +28,6 @@ returns c = record {
   as_specified =
       attr_made c.args.path.now c.args.operation.now.content c.args.tree.now c.requires.place_exists c.requires.height_bounded c.args.here.now c.args.name c.in-Some.value
       (sym c.in_ok-found.ensures.ok ∙ c.in-Some.is) (sym c.has_attr_at.ensures.exact ∙ c.if-has_attr_at.false)
-      (sym c.attr_alike_at.ensures.exact ∙ c.if-not-attr_alike_at.false)
-      ∙ ap Ok (sym c.in_ok-push_at.ensures.tree_changed);
+      (sym c.attr_names_agree_at.ensures.exact ∙ c.if-not-attr_names_agree_at.false)
+      ∙ ap Ok (sym c.in_ok-push_attribute_at.ensures.tree_changed);
 }

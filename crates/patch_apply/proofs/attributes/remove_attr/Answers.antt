@@ -5,9 +5,9 @@ use Rattle.patch_apply.proofs.ActionResults.{take_not}
 use Rattle.patch_apply.proofs.ActionTrees.{take_made}
 use Rattle.patch_apply.proofs.attributes.remove_attr.Goals as goal
 
-pub returns-then-not-is_bare : goal.returns-then-not-is_bare
-returns-then-not-is_bare c = record {
-  as_specified = take_not c.args.path.now c.args.place c.args.operation.now.content c.args.tree.now (sym c.is_bare.ensures.exact ∙ c.if-not-is_bare.true);
+pub returns-then-not-has_only_comments : goal.returns-then-not-has_only_comments
+returns-then-not-has_only_comments c = record {
+  as_specified = take_not c.args.path.now c.args.place c.args.operation.now.content c.args.tree.now (sym c.has_only_comments.ensures.exact ∙ c.if-not-has_only_comments.true);
 }
 
 pub returns : goal.returns
@@ -15,6 +15,6 @@ returns c = record {
   as_specified =
       let p = c.args.path.now in let t = c.args.tree.now in
       take_made p c.args.operation.now.content t (some_if (at p t) _ c.requires.place_exists) c.requires.height_bounded c.args.place
-      (sym c.is_bare.ensures.exact ∙ c.if-not-is_bare.false)
+      (sym c.has_only_comments.ensures.exact ∙ c.if-not-has_only_comments.false)
       ∙ ap Ok (sym c.remove_attribute_at.ensures.tree_changed);
 }

@@ -8,9 +8,9 @@ use Rattle.patch_apply.proofs.ActionResults.{cut_not}
 use Rattle.patch_apply.proofs.ActionTrees.{cut_made}
 use Rattle.patch_apply.proofs.attributes.remove_text.Goals as goal
 
-pub returns-then-not-is_bare : goal.returns-then-not-is_bare
-returns-then-not-is_bare c = record {
-  as_specified = λ before after. cut_not c.args.path.now c.args.place c.args.operation.now.content c.args.tree.now before after (sym c.is_bare.ensures.exact ∙ c.if-not-is_bare.true);
+pub returns-then-not-has_only_comments : goal.returns-then-not-has_only_comments
+returns-then-not-has_only_comments c = record {
+  as_specified = λ before after. cut_not c.args.path.now c.args.place c.args.operation.now.content c.args.tree.now before after (sym c.has_only_comments.ensures.exact ∙ c.if-not-has_only_comments.true);
 }
 
 pub returns : goal.returns
@@ -18,7 +18,7 @@ returns c = record {
   as_specified = λ before after.
       let p = c.args.path.now in let i = c.args.place in let t = c.args.tree.now in
       cut_made p c.args.operation.now.content t (some_if (at p t) _ c.requires.place_exists) c.requires.height_bounded before after i
-      (sym c.is_bare.ensures.exact ∙ c.if-not-is_bare.false)
+      (sym c.has_only_comments.ensures.exact ∙ c.if-not-has_only_comments.false)
       ∙ ap (λ (ns : List Node). Ok (change_at p (exchange_nodes i (suc i) ns) t)) (sym c.new.ensures.items)
-      ∙ ap Ok (sym c.in_ok-exchange_one.ensures.ok);
+      ∙ ap Ok (sym c.in_ok-exchange_node_at.ensures.ok);
 }

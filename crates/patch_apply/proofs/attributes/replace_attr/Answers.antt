@@ -16,5 +16,5 @@ returns c = record {
       let p = c.args.path.now in let t = c.args.tree.now in
       value_made p c.args.operation.now.content t (some_if (at p t) _ c.requires.place_exists) c.requires.height_bounded c.args.place c.in-Some.value
       (sym c.in_ok-found.ensures.ok ∙ c.in-Some.is)
-      ∙ ap Ok (sym c.write_at.ensures.tree_changed);
+      ∙ ap Ok (sym c.set_attribute_at.ensures.tree_changed);
 }

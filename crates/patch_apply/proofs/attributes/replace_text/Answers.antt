@@ -20,5 +20,5 @@ returns c = record {
       text_made p c.args.operation.now.content t (some_if (at p t) _ c.requires.place_exists) c.requires.height_bounded scope i c.in-Some.value
       (sym c.in_ok-found.ensures.ok ∙ c.in-Some.is)
       ∙ ap (λ (ns : List Node). Ok (change_at p (exchange_nodes i (suc i) ns) t)) (sym c.in_ok-nodes.ensures.ok)
-      ∙ ap Ok (sym c.in_ok-exchange_one.ensures.ok);
+      ∙ ap Ok (sym c.in_ok-exchange_node_at.ensures.ok);
 }

@@ -17,11 +17,11 @@ returns-clause-path_of_parent c = front_is c.args.path.now c.in-Some.parent c.in
 pub returns-clause-place_in_nodes : goal.returns-clause-place_in_nodes
 returns-clause-place_in_nodes c =
     let e = c.in-Some-element_at.element.now in let there = sym (c.in-Some-element_at.ensures {u = tt}).exact in
-    c.place_of-place.ensures.exact ∙ ap (place c.in-Some.child) c.nodes.ensures.content_nodes ∙ place_is c.args.path.now c.in-Some.parent c.in-Some.child c.args.tree.now e (c.in-Some.ensures {u = tt}).path_parts there
+    c.child_place-place.ensures.exact ∙ ap (place c.in-Some.child) c.nodes.ensures.content_nodes ∙ place_is c.args.path.now c.in-Some.parent c.in-Some.child c.args.tree.now e (c.in-Some.ensures {u = tt}).path_parts there
 
 pub returns-clause-within_nodes : goal.returns-clause-within_nodes
 returns-clause-within_nodes c =
     let e = c.in-Some-element_at.element.now in let there = sym (c.in-Some-element_at.ensures {u = tt}).exact in
     let inside = place_within c.args.path.now c.in-Some.parent c.in-Some.child c.args.tree.now e (c.in-Some.ensures {u = tt}).path_parts c.requires.place_exists there in
-    with_there (at c.in-Some.parent c.args.tree.now) (λ (x : Tree). c.place_of-place.result < length (nodes_of x.content)) e there
-    (subst (λ n. n < length (nodes_of e.content)) (sym (c.place_of-place.ensures.exact ∙ ap (place c.in-Some.child) c.nodes.ensures.content_nodes)) inside)
+    with_there (at c.in-Some.parent c.args.tree.now) (λ (x : Tree). c.child_place-place.result < length (nodes_of x.content)) e there
+    (subst (λ n. n < length (nodes_of e.content)) (sym (c.child_place-place.ensures.exact ∙ ap (place c.in-Some.child) c.nodes.ensures.content_nodes)) inside)

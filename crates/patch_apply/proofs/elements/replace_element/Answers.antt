@@ -10,19 +10,19 @@ returns-in_default c = record {
   as_specified = replace_none c.args.here.now c.args.path.now c.args.operation.now.content c.args.tree.now (sym (c.in_default.ensures {u = tt}).exact);
 }
 
-pub returns-then-not-may_stand : goal.returns-then-not-may_stand
-returns-then-not-may_stand c = record {
+pub returns-then-not-element_fits_depth : goal.returns-then-not-element_fits_depth
+returns-then-not-element_fits_depth c = record {
   as_specified =
       element_deep c.args.here.now c.args.path.now c.in-Some.new.now c.args.operation.now.content c.args.tree.now c.requires.place_exists c.requires.height_bounded
-      (sym (c.in-Some.ensures {u = tt}).exact) (sym c.may_stand.ensures.exact ∙ c.if-not-may_stand.true);
+      (sym (c.in-Some.ensures {u = tt}).exact) (sym c.element_fits_depth.ensures.exact ∙ c.if-not-element_fits_depth.true);
 }
 
-pub returns-then-not-alike_around : goal.returns-then-not-alike_around
-returns-then-not-alike_around c = record {
+pub returns-then-not-names_agree_around : goal.returns-then-not-names_agree_around
+returns-then-not-names_agree_around c = record {
   as_specified =
       element_unlike c.args.here.now c.args.path.now c.in-Some.new.now c.args.operation.now.content c.args.tree.now c.requires.place_exists c.requires.height_bounded
-      (sym (c.in-Some.ensures {u = tt}).exact) (sym c.may_stand.ensures.exact ∙ c.if-not-may_stand.false)
-      (sym c.alike_around.ensures.exact ∙ c.if-not-alike_around.true);
+      (sym (c.in-Some.ensures {u = tt}).exact) (sym c.element_fits_depth.ensures.exact ∙ c.if-not-element_fits_depth.false)
+      (sym c.names_agree_around.ensures.exact ∙ c.if-not-names_agree_around.true);
 }
 
 pub returns : goal.returns
@@ -30,8 +30,8 @@ returns c = record {
   as_specified =
       let p = c.args.path.now in let t = c.args.tree.now in
       element_made c.args.here.now p c.in-Some.new.now c.args.operation.now.content t c.requires.place_exists c.requires.height_bounded
-      (sym (c.in-Some.ensures {u = tt}).exact) (sym c.may_stand.ensures.exact ∙ c.if-not-may_stand.false)
-      (sym c.alike_around.ensures.exact ∙ c.if-not-alike_around.false)
+      (sym (c.in-Some.ensures {u = tt}).exact) (sym c.element_fits_depth.ensures.exact ∙ c.if-not-element_fits_depth.false)
+      (sym c.names_agree_around.ensures.exact ∙ c.if-not-names_agree_around.false)
       ∙ ap (λ (e : Tree). Ok (put_over p e t)) (sym c.in_ok-copy.ensures.equal_copy)
       ∙ ap Ok (sym c.put_over-old.ensures.element_replaced);
 }

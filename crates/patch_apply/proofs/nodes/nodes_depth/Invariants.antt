@@ -1,5 +1,5 @@
 use Rattle.std.proofs.Common.{◌≡◌, max, min, drop}
-use Rattle.patch_apply.specs.inner.ByNodes.{nodes_height}
+use Rattle.patch_apply.specs.inner.ContentNodes.{nodes_height}
 use Rattle.patch_apply.proofs.nodes.nodes_depth.Given as goal
 
 abbrev pub invariant-loop-node : goal.invariant-loop-node

@@ -2,7 +2,7 @@ use Rattle.std.proofs.Common.{List, ℕ, IsSome, sym, ap, ◌∙◌, subst}
 use Rattle.xml_tree.specs.Tree.{at}
 use Rattle.patch_rules.specs.PatchOperations.{new_attr_result, put_result}
 use Rattle.patch_rules.specs.PatchOperations as words
-use Rattle.patch_parse.specs.Views.{position_in, task_in}
+use Rattle.patch_parse.specs.Views.{position_view, action_view}
 use Rattle.patch_parse.specs.declared.patch_actions.PatchAction.{PatchAction}
 use Rattle.patch_apply.proofs.OperationStages.{edits_same}
 use Rattle.patch_apply.proofs.LocationActions.{path_same, spot_there}
@@ -18,8 +18,8 @@ pub returns-in-Put : goal.returns-in-Put
 returns-in-Put c = record {
   as_specified = λ w is.
       edits_same _ _ c.put_content.new.tree c.put_content.result
-      (ap (λ (p : List ℕ). put_result c.args.here.now (position_in c.in-Put.position) p c.args.operation.now.content c.args.tree.now) (c.into_path.ensures.exact ∙ path_same c.args.tree.now c.args.location w is)
-      ∙ ap (λ (task : PatchAction). words.apply_action c.args.here.now (task_in task) w c.args.operation.now.content c.args.tree.now) (sym c.in-Put.is))
+      (ap (λ (p : List ℕ). put_result c.args.here.now (position_view c.in-Put.position) p c.args.operation.now.content c.args.tree.now) (c.into_path.ensures.exact ∙ path_same c.args.tree.now c.args.location w is)
+      ∙ ap (λ (task : PatchAction). words.apply_action c.args.here.now (action_view task) w c.args.operation.now.content c.args.tree.now) (sym c.in-Put.is))
       c.put_content.ensures.as_specified;
 }
 
@@ -28,6 +28,6 @@ returns-in-NewAttr c = record {
   as_specified = λ w is.
       edits_same _ _ c.add_attr.new.tree c.add_attr.result
       (ap (λ (p : List ℕ). new_attr_result c.args.here.now c.in-NewAttr.name p c.args.operation.now.content c.args.tree.now) (c.into_path-in-NewAttr.ensures.exact ∙ path_same c.args.tree.now c.args.location w is)
-      ∙ ap (λ (task : PatchAction). words.apply_action c.args.here.now (task_in task) w c.args.operation.now.content c.args.tree.now) (sym c.in-NewAttr.is))
+      ∙ ap (λ (task : PatchAction). words.apply_action c.args.here.now (action_view task) w c.args.operation.now.content c.args.tree.now) (sym c.in-NewAttr.is))
       c.add_attr.ensures.as_specified;
 }

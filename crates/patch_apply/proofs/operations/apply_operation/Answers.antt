@@ -1,7 +1,7 @@
 use Rattle.std.proofs.Common.{◌++◌, ◌∷◌, [], List, sym, ap, ◌∙◌}
 use Rattle.std.specs.List.{list_all}
 use Rattle.xml_names.specs.declared.names.Decl.{Decl}
-use Rattle.patch_rules.specs.PatchOperations.{is_known}
+use Rattle.patch_rules.specs.PatchOperations.{is_known_attribute}
 use Rattle.patch_apply.proofs.OperationStages.{edits_same, known_attrs, plain_is, unknown_attrs, without_selector}
 use Rattle.patch_parse.proofs.Words.{sel}
 use Rattle.patch_apply.proofs.operations.apply_operation.Goals as goal
@@ -20,7 +20,7 @@ returns-then-not-are_known_attributes c = record {
       let o = c.args.operation.now in
       unknown_attrs c.args.scope.now o c.args.tree.now c.in-Some.sel.now
       (plain_is _ _ o.attrs c.attrs-attrs.result.now _ sel c.attrs-attrs.ensures.exact (c.in-Some.ensures {u = tt}).exact)
-      (ap (list_all is_known) (sym c.attrs-attrs.ensures.exact) ∙ sym c.are_known_attributes.ensures.exact ∙ c.if-not-are_known_attributes.true);
+      (ap (list_all is_known_attribute) (sym c.attrs-attrs.ensures.exact) ∙ sym c.are_known_attributes.ensures.exact ∙ c.if-not-are_known_attributes.true);
 }
 
 pub returns : goal.returns
@@ -34,7 +34,7 @@ returns c = record {
       ∙ sym (
       known_attrs c.args.scope.now o c.args.tree.now c.in-Some.sel.now
       (plain_is _ _ o.attrs c.attrs-attrs.result.now _ sel c.attrs-attrs.ensures.exact (c.in-Some.ensures {u = tt}).exact)
-      (ap (list_all is_known) (sym c.attrs-attrs.ensures.exact) ∙ sym c.are_known_attributes.ensures.exact ∙ c.if-not-are_known_attributes.false)
+      (ap (list_all is_known_attribute) (sym c.attrs-attrs.ensures.exact) ∙ sym c.are_known_attributes.ensures.exact ∙ c.if-not-are_known_attributes.false)
       )
       )
       c.apply_selected.ensures.as_specified;

@@ -8,7 +8,7 @@ pub returns : goal.returns
 returns c = record {
   ok =
       let p = c.args.names.now.prefix in
-      c.in_ok-push_removed.ensures.ok
+      c.in_ok-push_removed_document.ensures.ok
       ∙ ap (λ (t : Tree). record t { content = with_elem (removed_document p c.args.names.now.sel c.args.from) t.content })
       (c.in_ok-notice.ensures.notice_without_documents ∙ ap (λ (r : List ℕ). diff p r []) c.text.ensures.exact);
 }

@@ -1,7 +1,7 @@
 use Rattle.std.proofs.Common.{◌≡◌, [], IfOk, encode_utf8_all, refl, subst}
 use Rattle.edit_ops.specs.RecordParts.{all_notes}
 use Rattle.xml_tree.specs.Tree.{Tree}
-use Rattle.doc_names.specs.Ids.{id_text}
+use Rattle.doc_names.specs.DocIds.{id_text}
 use Rattle.xml_tree.specs.Print.{document_print}
 use Rattle.patch_rules.specs.Notices.{diff}
 use Rattle.patch_write.proofs.Built.{notice_is}

@@ -2,10 +2,10 @@ use Rattle.std.proofs.Common.{List, ap, ◌∙◌}
 use Rattle.std.proofs.lemmas.List.{take_all}
 use Rattle.xml_tree.specs.Edits.{with_elem}
 use Rattle.xml_tree.specs.Tree.{Tree}
-use Rattle.edit_ops.specs.Operations.{operation}
+use Rattle.edit_ops.specs.DiffOperations.{operation}
 use Rattle.edit_ops.specs.Notes.{Note}
 use Rattle.patch_rules.specs.Notices.{operations}
-use Rattle.patch_rules.specs.inner.Lists.{with_all}
+use Rattle.patch_rules.specs.inner.AppendedElements.{with_elements}
 use Rattle.patch_write.proofs.ElementLists.{next-put}
 use Rattle.patch_write.proofs.notices.push_operations.Goals as goal
 
@@ -18,5 +18,5 @@ loop-note-preserved c =
 pub returns : goal.returns
 returns c = record {
   ok =
-      c.loop-note.invariant ∙ ap (λ (ns : List Note). with_all (operations c.args.prefix.now ns) c.args.document.now) (take_all c.loop-note.note-index c.args.notes.now c.loop-note-test.false);
+      c.loop-note.invariant ∙ ap (λ (ns : List Note). with_elements (operations c.args.prefix.now ns) c.args.document.now) (take_all c.loop-note.note-index c.args.notes.now c.loop-note-test.false);
 }

@@ -1,5 +1,5 @@
-use Rattle.store_core.proofs.StateContents.{stands-after}
+use Rattle.store_core.proofs.StateContents.{stands-state_after}
 use Rattle.store_core.proofs.laws.stores_stand_after_each_change.Goals as goal
 
 pub returns : goal.returns
-returns c = record { represents_after = stands-after }
+returns c = record { represents_after = stands-state_after }

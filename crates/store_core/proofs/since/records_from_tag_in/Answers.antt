@@ -6,4 +6,4 @@ pub returns-in-Some : goal.returns-in-Some
 returns-in-Some c = record { exact = in-older c.args.tag c.args.older.now c.args.newer.now c.in-Some.found.now c.in-Some.ensures.exact }
 
 pub returns-in-None : goal.returns-in-None
-returns-in-None c = record { exact = c.from_tag_alone.ensures.exact ∙ in-newer c.args.tag c.args.older.now c.args.newer.now c.in-None.ensures.exact }
+returns-in-None c = record { exact = c.newer_records_from_tag.ensures.exact ∙ in-newer c.args.tag c.args.older.now c.args.newer.now c.in-None.ensures.exact }

@@ -1,12 +1,12 @@
 use Rattle.std.proofs.Common.{◌≡◌, ◌++◌, ℕ, List, OnOk, flat_map, refl, sym, ap, subst, ◌∙◌}
-use Rattle.tree_print.specs.inner.Escapes.{escape_in}
+use Rattle.tree_print.specs.inner.Escapes.{escaped_char}
 use Rattle.tree_print.proofs.EscapeLemmas.{plain_chars}
 use Rattle.tree_print.proofs.escapes.push_escaped.Goals as goal
 
 pub returns-then-is_plain : goal.returns-then-is_plain
 returns-then-is_plain c = record {
   appended =
-      let f = flat_map (escape_in c.args.place) in
+      let f = flat_map (escaped_char c.args.place) in
       let bytes = c.as_bytes.result.now in
       let same = c.as_bytes.ensures.value in
       let plain : f c.args.text.now ≡ c.args.text.now = ap f (sym same) ∙ c.if-is_plain.ensures.plain_unescaped refl ∙ same in

@@ -10,7 +10,7 @@ returns-in_ok-push-in-Some c = record {
   appends_number =
       let w = c.push.new.self in
       pushed c.args.declared.now (c.get_mut.follows.lender w) c.args.prefix.now w ((c.get_mut.follows.holds w).3 (search rules)) (Some c.in-Some.numbers.now) c.in-Some.ensures.value
-      c.args.number c.in_ok-push-in-Some.ensures.items;
+      c.args.namespace_number c.in_ok-push-in-Some.ensures.items;
 }
 
 pub returns-in_ok-insert-in-None : goal.returns-in_ok-insert-in-None
@@ -23,6 +23,6 @@ returns-in_ok-insert-in-None c = record {
       subst (λ z. UpdatesBy (slice_cmp nat_cmp) (slice_cmp nat_cmp c.args.prefix.now) z n (Some w)) c.get_mut.follows.holds-at-none
       (subst (λ k. UpdatesBy (slice_cmp nat_cmp) (slice_cmp nat_cmp k) c.get_mut.follows.lender-at-none n (Some w)) c.in_ok-copy-in-None.ensures.equal_text c.in_ok-insert-in-None.ensures.updates)
       in
-      pushed m n c.args.prefix.now w after None c.in-None.ensures.value c.args.number
-      (c.in_ok-push-in-None.ensures.items ∙ ap (λ xs. xs ++ c.args.number ∷ []) c.new-numbers.ensures.items);
+      pushed m n c.args.prefix.now w after None c.in-None.ensures.value c.args.namespace_number
+      (c.in_ok-push-in-None.ensures.items ∙ ap (λ xs. xs ++ c.args.namespace_number ∷ []) c.new-numbers.ensures.items);
 }

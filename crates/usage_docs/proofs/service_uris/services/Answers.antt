@@ -8,6 +8,6 @@ use Rattle.usage_docs.proofs.service_uris.services.Goals as goal
 pub returns : goal.returns
 returns c = record {
   addresses_in_order =
-      uris_are (c.declared_in.result ∷ []) c.nodes.result.now c.args.root.now.content c.nodes.ensures.nodes_content
-      ∙ ap (λ (ds : List Decl). filter_map (service_uri (ds ∷ [])) (child_elements_of c.args.root.now)) (c.declared_in.ensures.holds_declarations ∙ c.decls.ensures.exact);
+      uris_are (c.index_decls.result ∷ []) c.nodes.result.now c.args.root.now.content c.nodes.ensures.nodes_content
+      ∙ ap (λ (ds : List Decl). filter_map (service_uri (ds ∷ [])) (child_elements_of c.args.root.now)) (c.index_decls.ensures.holds_declarations ∙ c.decls.ensures.exact);
 }

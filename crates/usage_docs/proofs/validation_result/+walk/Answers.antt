@@ -5,18 +5,18 @@ use Rattle.xml_tree.specs.Nodes.{node_height}
 use Rattle.xml_tree.specs.Tree.{height, child_elements_of}
 use Rattle.xml_tree.specs.declared.tree.Node.{Node}
 use Rattle.xml_tree.specs.TreeScopes.{inside}
-use Rattle.usage_docs.specs.declared.keys.KeyedChild.{KeyedChild}
+use Rattle.usage_docs.specs.declared.key_repeats.KeyedChild.{KeyedChild}
 use Rattle.usage_docs.specs.declared.schema_table.ElementKind.{ElementKind}
-use Rattle.usage_docs.specs.UniqueKeys.{Mark}
-use Rattle.usage_docs.specs.Forms.{AllFormed, IsNodeFormed, is_formed}
-use Rattle.usage_docs.specs.Keys.{attrs_pass}
+use Rattle.usage_docs.specs.UniqueKeys.{SiblingKey}
+use Rattle.usage_docs.specs.ReferenceForms.{AllReferencesFormed, IsFormedNode, are_references_formed}
+use Rattle.usage_docs.specs.KeyAttributes.{are_attrs_allowed}
 use Rattle.usage_docs.specs.SchemaTable.{Scope, kind_of}
-use Rattle.usage_docs.specs.Validity.{ValidInRow, text_passes}
-use Rattle.usage_docs.specs.readers.FirstFaults.{IsFirstAfter, IsKnownFormed, PassesKey, RepeatsKnown}
-use Rattle.usage_docs.specs.readers.Parts.{follows, part_of}
-use Rattle.usage_docs.specs.readers.Repeats.{Enters, Holds}
-use Rattle.usage_docs.specs.readers.Siblings.{node_children, one_more}
-use Rattle.usage_docs.specs.readers.Walks.{HoldsRow, IsNodeValid, part_after}
+use Rattle.usage_docs.specs.Validity.{IsValidOfKind, is_text_allowed}
+use Rattle.usage_docs.specs.readers.FirstFaults.{IsFirstClashAfter, IsFormedOfKind, AddsKey, RepeatsKeyIfKnown}
+use Rattle.usage_docs.specs.readers.ContentParts.{may_follow, part_of}
+use Rattle.usage_docs.specs.readers.KeyRepeats.{EntersKey, HoldsKeys}
+use Rattle.usage_docs.specs.readers.SiblingElements.{node_children, count_with_node}
+use Rattle.usage_docs.specs.readers.ContentWalks.{IsContentOfKind, IsNodeValid, part_after_node}
 use Rattle.usage_docs.proofs.ClashLemmas.{kids_are, kind_is, scope_is}
 use Rattle.usage_docs.proofs.FindingLemmas.{And, ClashPassed, FirstSoFar, and_both, and_equal, and_same, and_then, clash_next, counts_next, formed_end, formed_next, key_next, marked_by, none_clash, none_found_yet, none_known, nothing_more, one_more_at_most, same_test, some_known, under_test, valid_end, valid_in_row, valid_next}
 use Rattle.usage_docs.proofs.NodesFormed.{nodes_formed}
@@ -38,7 +38,7 @@ walk_inside-loop-node-init t c =
       counted = refl;
       small = omega arith;
       clear = omega arith;
-      held = λ _. subst (λ (ks : List KeyedChild). Holds c.args.row c.args.scope.now (child_elements_of e) 0 ks) (sym c.new.ensures.items) (none_held c.args.row c.args.scope.now (child_elements_of e));
+      held = λ _. subst (λ (ks : List KeyedChild). HoldsKeys c.args.row c.args.scope.now (child_elements_of e) 0 ks) (sym c.new.ensures.items) (none_held c.args.row c.args.scope.now (child_elements_of e));
       first = λ low. none_found_yet c.args.row c.args.scope.now (child_elements_of e) c.args.trail.now c.args.found.now.clash;
     }
 
@@ -92,9 +92,9 @@ walk_inside-returns t c =
     let count : passed.count ≡ length xs = inv.counted ∙ ap (λ (ms : List Node). length (node_children ms)) all ∙ ap length (sym inv.child_elements) in
     let stay = c.note_repeat.ensures.others_stay in
     record {
-      valid_inside = valid_end row scope (drop i ns) passed.part found.valid c.follows.result c.note_repeat.new.found.valid first.valid (HoldsRow row scope e.content) none stay.0 c.follows.ensures.exact inv.valid;
-      formed_inside = subst (λ (b : Bool). And b first.formed (AllFormed row scope e.content)) (sym stay.1) (formed_end row scope (drop i ns) found.formed first.formed (AllFormed row scope e.content) none inv.formed);
-      first_clash_inside = λ low. c.note_repeat.ensures.is_first_repeat row scope e first.clash (c.repeat_among-repeat.ensures.is_first_repeat (λ all. subst (λ (k : ℕ). Holds row scope xs k passed.keys.items) count (inv.held all))) low
+      valid_inside = valid_end row scope (drop i ns) passed.part found.valid c.may_follow.result c.note_repeat.new.found.valid first.valid (IsContentOfKind row scope e.content) none stay.0 c.may_follow.ensures.exact inv.valid;
+      formed_inside = subst (λ (b : Bool). And b first.formed (AllReferencesFormed row scope e.content)) (sym stay.1) (formed_end row scope (drop i ns) found.formed first.formed (AllReferencesFormed row scope e.content) none inv.formed);
+      first_clash_inside = λ low. c.note_repeat.ensures.is_first_repeat row scope e first.clash (c.repeat_among-repeat.ensures.is_first_repeat (λ all. subst (λ (k : ℕ). HoldsKeys row scope xs k passed.keys.items) count (inv.held all))) low
           (subst (λ (k : ℕ). FirstSoFar row scope xs trail k passed.clear first.clash found.clash) count (inv.first low));
     }
 
@@ -112,11 +112,11 @@ walk_node-returns-in-Elem t c =
     let done = c.walk_child.ensures in
     record {
       valid_with_node = subst (λ (n : Node). (And next.valid found.valid (IsNodeValid row scope old.part n))) is done.valid_with_child;
-      formed_with_node = subst (λ (n : Node). (And next.formed found.formed (IsNodeFormed row scope n))) is done.formed_with_child;
-      next_part = subst (λ (n : Node). (new.part ≡ part_after row scope old.part n)) is done.next_part;
-      counts_node = subst (λ (n : Node). (new.count ≡ one_more n old.count)) is done.counts_child;
+      formed_with_node = subst (λ (n : Node). (And next.formed found.formed (IsFormedNode row scope n))) is done.formed_with_child;
+      next_part = subst (λ (n : Node). (new.part ≡ part_after_node row scope old.part n)) is done.next_part;
+      counts_node = subst (λ (n : Node). (new.count ≡ count_with_node n old.count)) is done.counts_child;
       clear_at_most = done.clear_at_most;
-      enters_key = subst (λ (n : Node). (PassesKey row scope n old new)) is done.enters_key;
+      enters_key = subst (λ (n : Node). (AddsKey row scope n old new)) is done.enters_key;
       clash_in_node = subst (λ (n : Node). (length c.args.trail.now + node_height n ≤ 64 → ClashPassed row scope c.args.trail.now n old found.clash new next.clash)) is done.clash_in_child;
     }
 
@@ -127,15 +127,15 @@ walk_node-returns-in-Chars t c =
     let old = c.args.passed.now in
     let found = c.args.found.now in
     let is = sym c.in-Chars.is in
-    let passes = c.text_passes.result in
-    let says : passes ≡ text_passes row c.in-Chars.text = c.text_passes.ensures.exact ∙ ap (text_passes row) c.as_str.ensures.same_chars in
+    let passes = c.is_text_allowed.result in
+    let says : passes ≡ is_text_allowed row c.in-Chars.text = c.is_text_allowed.ensures.exact ∙ ap (is_text_allowed row) c.as_str.ensures.same_chars in
     record {
-      valid_with_node = subst (λ (n : Node). And (found.valid && passes) found.valid (IsNodeValid row scope old.part n)) is (and_equal (found.valid && passes) found.valid passes _ refl (same_test passes (text_passes row c.in-Chars.text) says));
-      formed_with_node = subst (λ (n : Node). And found.formed found.formed (IsNodeFormed row scope n)) is (nothing_more found.formed);
-      next_part = subst (λ (n : Node). old.part ≡ part_after row scope old.part n) is refl;
-      counts_node = subst (λ (n : Node). old.count ≡ one_more n old.count) is refl;
+      valid_with_node = subst (λ (n : Node). And (found.valid && passes) found.valid (IsNodeValid row scope old.part n)) is (and_equal (found.valid && passes) found.valid passes _ refl (same_test passes (is_text_allowed row c.in-Chars.text) says));
+      formed_with_node = subst (λ (n : Node). And found.formed found.formed (IsFormedNode row scope n)) is (nothing_more found.formed);
+      next_part = subst (λ (n : Node). old.part ≡ part_after_node row scope old.part n) is refl;
+      counts_node = subst (λ (n : Node). old.count ≡ count_with_node n old.count) is refl;
       clear_at_most = c.requires.clear_bounded;
-      enters_key = subst (λ (n : Node). PassesKey row scope n old old) is (refl, refl);
+      enters_key = subst (λ (n : Node). AddsKey row scope n old old) is (refl, refl);
       clash_in_node = λ low. subst (λ (n : Node). ClashPassed row scope c.args.trail.now n old found.clash old found.clash) is (refl, refl);
     }
 
@@ -148,11 +148,11 @@ walk_node-returns-in-Comment t c =
     let is = sym c.in-Comment.is in
     record {
       valid_with_node = subst (λ (n : Node). And found.valid found.valid (IsNodeValid row scope old.part n)) is (nothing_more found.valid);
-      formed_with_node = subst (λ (n : Node). And found.formed found.formed (IsNodeFormed row scope n)) is (nothing_more found.formed);
-      next_part = subst (λ (n : Node). old.part ≡ part_after row scope old.part n) is refl;
-      counts_node = subst (λ (n : Node). old.count ≡ one_more n old.count) is refl;
+      formed_with_node = subst (λ (n : Node). And found.formed found.formed (IsFormedNode row scope n)) is (nothing_more found.formed);
+      next_part = subst (λ (n : Node). old.part ≡ part_after_node row scope old.part n) is refl;
+      counts_node = subst (λ (n : Node). old.count ≡ count_with_node n old.count) is refl;
       clear_at_most = c.requires.clear_bounded;
-      enters_key = subst (λ (n : Node). PassesKey row scope n old old) is (refl, refl);
+      enters_key = subst (λ (n : Node). AddsKey row scope n old old) is (refl, refl);
       clash_in_node = λ low. subst (λ (n : Node). ClashPassed row scope c.args.trail.now n old found.clash old found.clash) is (refl, refl);
     }
 
@@ -164,37 +164,37 @@ walk_child-returns t c =
     let scope = c.args.scope.now in
     let trail = c.args.trail.now in
     let e = c.args.child_element.now in
-    let child = c.place_of-child.result in
+    let child = c.find_placement-child.result in
     let old = c.args.passed.now in
     let new = c.add.new.self in
     let found = c.args.found.now in
-    let mid = found.valid && c.follows.result in
+    let mid = found.valid && c.may_follow.result in
     let next = c.walk_if_kind.new.found in
-    let is = scope_is scope e c.inside-inside.result c.declared_in-declared.result c.decls.result.now c.inside-inside.ensures.adds_declarations c.declared_in-declared.ensures.holds_declarations c.decls.ensures.exact in
-    let kind = kind_is row scope e c.inside-inside.result c.name.result.now child.kind child.kind c.place_of-child.ensures.child_kind is c.name.ensures.exact refl in
+    let is = scope_is scope e c.inside-inside.result c.index_decls-declared.result c.decls.result.now c.inside-inside.ensures.adds_declarations c.index_decls-declared.ensures.holds_declarations c.decls.ensures.exact in
+    let kind = kind_is row scope e c.inside-inside.result c.name.result.now child.kind child.kind c.find_placement-child.ensures.child_kind is c.name.ensures.exact refl in
     let part : child.part ≡ part_of row (inside scope e) e.name =
-    c.place_of-child.ensures.child_part ∙ ap (λ (s : Scope). part_of row s c.name.result.now) is ∙ ap (part_of row (inside scope e)) c.name.ensures.exact in
-    let follow = same_test c.follows.result (follows row old.part (part_of row (inside scope e) e.name)) (c.follows.ensures.exact ∙ ap (follows row old.part) part) in
+    c.find_placement-child.ensures.child_part ∙ ap (λ (s : Scope). part_of row s c.name.result.now) is ∙ ap (part_of row (inside scope e)) c.name.ensures.exact in
+    let follow = same_test c.may_follow.result (may_follow row old.part (part_of row (inside scope e) e.name)) (c.may_follow.ensures.exact ∙ ap (may_follow row old.part) part) in
     let walked = c.walk_if_kind.ensures in
     let added = c.add.ensures in
-    let valid = subst (λ (o : Option ElementKind). And next.valid mid (ForSome o (λ k. ValidInRow k (inside scope e) e))) (sym kind)
-    (subst (λ (s : Scope). And next.valid mid (ForSome child.kind (λ k. ValidInRow k s e))) is walked.valid_with_element) in
-    let formed = subst (λ (o : Option ElementKind). And next.formed found.formed (ForSome o (λ k. IsKnownFormed k (inside scope e) e))) (sym kind)
-    (subst (λ (s : Scope). And next.formed found.formed (ForSome child.kind (λ k. IsKnownFormed k s e))) is walked.formed_with_element) in
+    let valid = subst (λ (o : Option ElementKind). And next.valid mid (ForSome o (λ k. IsValidOfKind k (inside scope e) e))) (sym kind)
+    (subst (λ (s : Scope). And next.valid mid (ForSome child.kind (λ k. IsValidOfKind k s e))) is walked.valid_with_element) in
+    let formed = subst (λ (o : Option ElementKind). And next.formed found.formed (ForSome o (λ k. IsFormedOfKind k (inside scope e) e))) (sym kind)
+    (subst (λ (s : Scope). And next.formed found.formed (ForSome child.kind (λ k. IsFormedOfKind k s e))) is walked.formed_with_element) in
     let here = c.child-here.ensures.exact in
     record {
-      valid_with_child = and_then found.valid mid next.valid (and_equal mid found.valid c.follows.result _ refl follow) valid;
+      valid_with_child = and_then found.valid mid next.valid (and_equal mid found.valid c.may_follow.result _ refl follow) valid;
       formed_with_child = formed;
       next_part = added.same_part ∙ part;
       counts_child = added.counts_child;
       clear_at_most = added.clear_at_most;
-      enters_key = subst (λ (m : Option Mark). new.holds_all ≡ true → (old.holds_all ≡ true) × Enters m old.count old.keys.items new.keys.items) (marked_by row scope e child.kind c.attrs.result.now kind c.attrs.ensures.exact) added.enters_key;
+      enters_key = subst (λ (m : Option SiblingKey). new.holds_all ≡ true → (old.holds_all ≡ true) × EntersKey m old.count old.keys.items new.keys.items) (marked_by row scope e child.kind c.attrs.result.now kind c.attrs.ensures.exact) added.enters_key;
       clash_in_child = λ low.
           (let long = ap length here ∙ length-append trail (old.count ∷ []) in
           let below = walked.first_clash_below (omega (arith, low, long)) in
-          let first = subst (λ (o : Option ElementKind). IsFirstAfter found.clash (RepeatsKnown o (inside scope e) e) c.child-here.result next.clash) (sym kind)
-          (subst (λ (s : Scope). IsFirstAfter found.clash (RepeatsKnown child.kind s e) c.child-here.result next.clash) is below) in
-          (subst (λ (p : List ℕ). IsFirstAfter found.clash (RepeatsKnown (kind_of row (inside scope e) e.name) (inside scope e) e) p next.clash) here first, added.counts_clear ∙ ap (λ (b : Bool). cond b old.clear (suc old.clear)) c.is_some.ensures));
+          let first = subst (λ (o : Option ElementKind). IsFirstClashAfter found.clash (RepeatsKeyIfKnown o (inside scope e) e) c.child-here.result next.clash) (sym kind)
+          (subst (λ (s : Scope). IsFirstClashAfter found.clash (RepeatsKeyIfKnown child.kind s e) c.child-here.result next.clash) is below) in
+          (subst (λ (p : List ℕ). IsFirstClashAfter found.clash (RepeatsKeyIfKnown (kind_of row (inside scope e) e.name) (inside scope e) e) p next.clash) here first, added.counts_clear ∙ ap (λ (b : Bool). cond b old.clear (suc old.clear)) c.is_some.ensures));
     }
 
 -- ---- an element that may have a kind
@@ -206,8 +206,8 @@ walk_if_kind-returns-in_default t c =
     let e = c.args.element.now in
     let found = c.args.found.now in
     record {
-      valid_with_element = none_known kind c.in_default.is (λ k. ValidInRow k scope e) found.valid;
-      formed_with_element = none_known kind c.in_default.is (λ k. IsKnownFormed k scope e) found.formed;
+      valid_with_element = none_known kind c.in_default.is (λ k. IsValidOfKind k scope e) found.valid;
+      formed_with_element = none_known kind c.in_default.is (λ k. IsFormedOfKind k scope e) found.formed;
       first_clash_below = λ low. none_clash kind c.in_default.is scope e c.args.trail.now found.clash;
     }
 
@@ -218,17 +218,17 @@ walk_if_kind-returns t c =
     let scope = c.args.scope.now in
     let e = c.args.element.now in
     let found = c.args.found.now in
-    let valid = found.valid && c.attrs_pass.result in
-    let formed = found.formed && c.is_formed.result in
+    let valid = found.valid && c.are_attrs_allowed.result in
+    let formed = found.formed && c.are_references_formed.result in
     let next = c.walk_inside.new.found in
     let walked = c.walk_inside.ensures in
-    let attrs = same_test c.attrs_pass.result (attrs_pass known scope e.attrs) (c.attrs_pass.ensures.exact ∙ ap (attrs_pass known scope) c.attrs.ensures.exact) in
-    let form = same_test c.is_formed.result (is_formed known e.attrs e.content) c.is_formed.ensures.exact in
+    let attrs = same_test c.are_attrs_allowed.result (are_attrs_allowed known scope e.attrs) (c.are_attrs_allowed.ensures.exact ∙ ap (are_attrs_allowed known scope) c.attrs.ensures.exact) in
+    let form = same_test c.are_references_formed.result (are_references_formed known e.attrs e.content) c.are_references_formed.ensures.exact in
     record {
       valid_with_element =
-          and_same next.valid found.valid (and_both (valid_in_row known scope e) (some_known kind known c.in-Some.is (λ k. ValidInRow k scope e)))
-          (and_then found.valid valid next.valid (and_equal valid found.valid c.attrs_pass.result _ refl attrs) walked.valid_inside);
+          and_same next.valid found.valid (and_both (valid_in_row known scope e) (some_known kind known c.in-Some.is (λ k. IsValidOfKind k scope e)))
+          (and_then found.valid valid next.valid (and_equal valid found.valid c.are_attrs_allowed.result _ refl attrs) walked.valid_inside);
       formed_with_element =
-          and_same next.formed found.formed (some_known kind known c.in-Some.is (λ k. IsKnownFormed k scope e)) (and_then found.formed formed next.formed (and_equal formed found.formed c.is_formed.result _ refl form) walked.formed_inside);
-      first_clash_below = λ low. subst (λ (o : Option ElementKind). IsFirstAfter found.clash (RepeatsKnown o scope e) c.args.trail.now next.clash) (sym c.in-Some.is) (walked.first_clash_inside low);
+          and_same next.formed found.formed (some_known kind known c.in-Some.is (λ k. IsFormedOfKind k scope e)) (and_then found.formed formed next.formed (and_equal formed found.formed c.are_references_formed.result _ refl form) walked.formed_inside);
+      first_clash_below = λ low. subst (λ (o : Option ElementKind). IsFirstClashAfter found.clash (RepeatsKeyIfKnown o scope e) c.args.trail.now next.clash) (sym c.in-Some.is) (walked.first_clash_inside low);
     }

@@ -1,10 +1,10 @@
 use Rattle.std.proofs.Common.{◌≡◌, ◌≤◌, ◌*◌, ◌+◌, drop, length, take, true}
 use Rattle.xml_tree.specs.Nodes.{node_height}
 use Rattle.xml_tree.specs.Tree.{content_height, height, child_elements_of}
-use Rattle.usage_docs.specs.Forms.{AllFormed}
-use Rattle.usage_docs.specs.readers.Repeats.{Holds}
-use Rattle.usage_docs.specs.readers.Siblings.{node_children}
-use Rattle.usage_docs.specs.readers.Walks.{HoldsRow}
+use Rattle.usage_docs.specs.ReferenceForms.{AllReferencesFormed}
+use Rattle.usage_docs.specs.readers.KeyRepeats.{HoldsKeys}
+use Rattle.usage_docs.specs.readers.SiblingElements.{node_children}
+use Rattle.usage_docs.specs.readers.ContentWalks.{IsContentOfKind}
 use Rattle.usage_docs.proofs.FindingLemmas.{FirstSoFar, Stands}
 use Rattle.usage_docs.proofs.NodesFormed.{FormedNodes}
 use Rattle.usage_docs.proofs.NodesValid.{ValidNodes}
@@ -24,12 +24,12 @@ decreases-walk_if_kind l = 4 * height l.element.now + 1
 
 abbrev pub invariant-walk_inside-loop-node : goal.invariant-walk_inside-loop-node
 invariant-walk_inside-loop-node l = record {
-  valid : Stands l.found.valid (ValidNodes l.row l.scope l.passed.part (drop l.node-index l.nodes)) l.fn.found.valid (HoldsRow l.row l.scope l.element.content);
-  formed : Stands l.found.formed (FormedNodes l.row l.scope (drop l.node-index l.nodes)) l.fn.found.formed (AllFormed l.row l.scope l.element.content);
+  valid : Stands l.found.valid (ValidNodes l.row l.scope l.passed.part (drop l.node-index l.nodes)) l.fn.found.valid (IsContentOfKind l.row l.scope l.element.content);
+  formed : Stands l.found.formed (FormedNodes l.row l.scope (drop l.node-index l.nodes)) l.fn.found.formed (AllReferencesFormed l.row l.scope l.element.content);
   child_elements : child_elements_of l.element ≡ node_children l.nodes;
   counted : l.passed.count ≡ length (node_children (take l.node-index l.nodes));
   small : l.passed.count ≤ l.node-index;
   clear : l.passed.clear ≤ l.passed.count;
-  held : l.passed.holds_all ≡ true → Holds l.row l.scope (child_elements_of l.element) l.passed.count l.passed.keys.items;
+  held : l.passed.holds_all ≡ true → HoldsKeys l.row l.scope (child_elements_of l.element) l.passed.count l.passed.keys.items;
   first : length l.trail + content_height l.element.content ≤ 64 → FirstSoFar l.row l.scope (child_elements_of l.element) l.trail l.passed.count l.passed.clear l.fn.found.clash l.found.clash;
 }

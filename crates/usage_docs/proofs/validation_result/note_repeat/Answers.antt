@@ -1,8 +1,8 @@
 use Rattle.std.proofs.Common.{◌≡◌, ◌≤◌, List, ℕ, Option, IsSome, IfSome, length, refl, sym, subst, ◌∙◌}
 use Rattle.std.proofs.lemmas.Bool.{false≢true}
 use Rattle.xml_tree.specs.Tree.{child_elements_of}
-use Rattle.usage_docs.specs.declared.keys.KeyRepeat.{KeyRepeat}
-use Rattle.usage_docs.specs.readers.Repeats.{IsFirstRepeat}
+use Rattle.usage_docs.specs.declared.key_repeats.KeyRepeat.{KeyRepeat}
+use Rattle.usage_docs.specs.readers.KeyRepeats.{IsFirstRepeat}
 use Rattle.usage_docs.proofs.FindingLemmas.{none_repeats, repeats_first, repeats_later, repeats_low}
 use Rattle.usage_docs.proofs.validation_result.note_repeat.Goals as goal
 

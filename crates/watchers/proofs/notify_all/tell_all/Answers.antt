@@ -1,6 +1,6 @@
 use Rattle.std.proofs.Common.{arith, refl}
 use Rattle.watchers.proofs.Turns.{one_kept, one_left, all_told}
-use Rattle.watchers.specs.inner.Rounds.{one_round}
+use Rattle.watchers.specs.inner.RepeatedNotifications.{one_round}
 use Rattle.watchers.proofs.notify_all.tell_all.Goals as goal
 
 pub watchers-preserved-then-notify : goal.watchers-preserved-then-notify

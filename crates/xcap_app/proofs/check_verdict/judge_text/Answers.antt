@@ -1,6 +1,6 @@
 use Rattle.std.proofs.Common.{◌≡◌, subst}
 use Rattle.tree_text.specs.declared.fault.TextFault.{TextFault}
-use Rattle.xcap_app.specs.Verdicts.{refusal_of_text}
+use Rattle.xcap_app.specs.TextVerdicts.{refusal_of_text}
 use Rattle.xcap_app.specs.declared.exit.Exit.TheVariants.{Refused}
 use Rattle.xcap_app.proofs.Ends.{fault_judged, tree_judged}
 use Rattle.xcap_app.proofs.check_verdict.judge_text.Goals as goal

@@ -1,6 +1,6 @@
 use Rattle.std.proofs.Common.{List, ℕ, refl, subst}
 use Rattle.xcap_app.specs.KeepCommand.{KeepsCommand}
-use Rattle.xcap_app.specs.Serves.{ServesCommand}
+use Rattle.xcap_app.specs.ServeCommand.{ServesCommand}
 use Rattle.xcap_app.specs.declared.command.Command.TheVariants.{Serve, Keep, Sample, Fetch, Put, Delete, Follow}
 use Rattle.xcap_app.proofs.Ends.{ran_as}
 use Rattle.xcap_app.proofs.entry_point.execute.Goals as goal

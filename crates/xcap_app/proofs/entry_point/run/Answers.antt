@@ -4,9 +4,9 @@ use Rattle.xcap_app.proofs.entry_point.run.Goals as goal
 pub returns : goal.returns
 returns g c = record {
   exit_status = (
-    c.tell_exit.result,
+    c.report_exit.result,
     c.status.ensures.exact,
-    ran_told g.W.Watchers.keeps _ _ _ _ _ _ _ _ _ _ _ _ _ c.tell_exit.ensures.exit_reported c.execute_words-exit.ensures.runs_command,
-    c.tell_exit.ensures.writes_words,
+    ran_told g.W.Watchers.keeps _ _ _ _ _ _ _ _ _ _ _ _ _ c.report_exit.ensures.exit_reported c.execute_words-exit.ensures.runs_command,
+    c.report_exit.ensures.writes_words,
   );
 }

@@ -1,6 +1,6 @@
 use Rattle.std.proofs.Common.{rules, [], ◌∷◌}
-use Rattle.xcap_io.specs.Pairs.{pair_state}
-use Rattle.xcap_app.specs.Replays.{ServesInput}
+use Rattle.xcap_io.specs.StreamPairs.{pair_state}
+use Rattle.xcap_app.specs.ReplayCommand.{ServesInput}
 use Rattle.xcap_app.proofs.Pairs.{by_pair}
 use Rattle.xcap_app.proofs.replay.serve_pair.Goals as goal
 

@@ -10,6 +10,6 @@ overflow_mul-len c =
 pub returns : goal.returns
 returns c = record {
   sample_summary =
-      sampled c.args.requests _ c.args.connections.items c.in_ok-noting.noting c.serve_them.new.noting c.summary-summary.result c.in_ok-noting.ensures.is_new c.requires.every_connection
-      c.serve_them.ensures.serves_all c.summary-summary.ensures.exact;
+      sampled c.args.requests _ c.args.connections.items c.in_ok-noting.noting c.serve_connections.new.noting c.summary-summary.result c.in_ok-noting.ensures.is_new c.requires.every_connection
+      c.serve_connections.ensures.serves_all c.summary-summary.ensures.exact;
 }

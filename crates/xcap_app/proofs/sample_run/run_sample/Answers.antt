@@ -1,5 +1,5 @@
 use Rattle.std.proofs.Common.{◌≡◌, ◌≤◌, ℕ, IfOk, subst, arith}
-use Rattle.xcap_app.specs.Samples.{Samples}
+use Rattle.xcap_app.specs.SampleCommand.{MakesSample}
 use Rattle.xcap_app.proofs.SampleRuns.{few_connections}
 use Rattle.xcap_app.proofs.sample_run.run_sample.Goals as goal
 
@@ -12,4 +12,4 @@ run_connections-requires-clause-within_max c =
 pub returns : goal.returns
 returns c =
     let same : c.from-requests.result ≡ c.args.requests = grind (arith, c.from-requests.ensures) in
-    record { sample_summary = subst (λ (n : ℕ). IfOk c.run_connections.result (λ summary. Samples n summary)) same c.run_connections.ensures.sample_summary }
+    record { sample_summary = subst (λ (n : ℕ). IfOk c.run_connections.result (λ summary. MakesSample n summary)) same c.run_connections.ensures.sample_summary }

@@ -1,5 +1,5 @@
 use Rattle.std.proofs.Common.{List, ℕ, subst}
-use Rattle.xcap_app.specs.Serves.{ServesCommand}
+use Rattle.xcap_app.specs.ServeCommand.{ServesCommand}
 use Rattle.xcap_app.proofs.serve.serve.Goals as goal
 
 pub returns : goal.returns

@@ -2,7 +2,7 @@ use Rattle.std.proofs.Common.{◌≡◌, encode_utf8_all, ap, ◌∙◌, subst, 
 use Rattle.std.specs.Prelude.{Ok, Err}
 use Rattle.std.proofs.lemmas.Result.{err_from_is_err_and}
 use Rattle.xcap_io.specs.Connections.{Connects}
-use Rattle.xcap_client.specs.Addresses.{address_of}
+use Rattle.xcap_client.specs.ServerAddresses.{address_of}
 use Rattle.xcap_client.specs.Exchanges.{not_connected, not_sent, answered}
 use Rattle.xcap_client.proofs.exchanges.exchange.Goals as goal
 

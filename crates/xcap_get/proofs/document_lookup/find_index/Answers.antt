@@ -1,5 +1,5 @@
 use Rattle.std.proofs.Common.{subst}
-use Rattle.xml_names.specs.Memory.{OfFault}
+use Rattle.xml_names.specs.ReadErrors.{FaultSatisfies}
 use Rattle.xml_names.specs.declared.read_error.ReadError.{ReadError}
 use Rattle.usage_docs.specs.declared.service_index.IndexFault.{IndexFault}
 use Rattle.xcap_get.specs.inner.FoundResources.{HasLongIndex}
@@ -13,5 +13,5 @@ returns-in-Ok-clause-leads_there c =
 pub returns-in-Err-Fault-clause-leads_there : goal.returns-in-Err-Fault-clause-leads_there
 returns-in-Err-Fault-clause-leads_there c =
     let refused = c.in-Err-Fault.ensures.refused_beyond_limit in
-    let found = subst (λ (error : ReadError IndexFault). OfFault (λ (fault : IndexFault). HasLongIndex c.args.store.now.content) error) c.in-Err-Fault.field-0-is refused in
+    let found = subst (λ (error : ReadError IndexFault). FaultSatisfies (λ (fault : IndexFault). HasLongIndex c.args.store.now.content) error) c.in-Err-Fault.field-0-is refused in
     leads_beyond c.args.store.now.content found.0 found.1 found.2

@@ -1,6 +1,6 @@
 use Rattle.std.proofs.Common.{None, Some, refl, ap}
 use Rattle.std.proofs.lemmas.Result.{IfOk-weaker}
-use Rattle.xcap_machine.specs.Answers.{unchanged}
+use Rattle.xcap_machine.specs.Answers.{reply_only}
 use Rattle.xcap_machine.specs.Resources.{there}
 use Rattle.xcap_get.proofs.documents.stored_reply.Goals as goal
 
@@ -13,4 +13,4 @@ returns-in-Some-clause-machine_reply c =
 pub returns-in-None-clause-machine_reply : goal.returns-in-None-clause-machine_reply
 returns-in-None-clause-machine_reply c =
     let stops = rw c.in-None.is at c.in_ok-reply.ensures.exact in
-    IfOk-weaker c.printed_reply.result _ _ (λ reply sent. (there sent.0 c.args.tag, sent.1, (None, stops, ap unchanged sent.2))) c.printed_reply.ensures.sends_printed
+    IfOk-weaker c.printed_reply.result _ _ (λ reply sent. (there sent.0 c.args.tag, sent.1, (None, stops, ap reply_only sent.2))) c.printed_reply.ensures.sends_printed

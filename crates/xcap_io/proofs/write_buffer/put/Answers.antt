@@ -1,5 +1,5 @@
 use Rattle.std.proofs.Common.{[], ◌++◌, sym, subst}
-use Rattle.xcap_io.specs.Streams.{WritesAll}
+use Rattle.xcap_io.specs.StreamWrites.{WritesAll}
 use Rattle.xcap_io.proofs.BufferPieces.{adds_both, adds_written}
 use Rattle.xcap_io.proofs.write_buffer.put.Goals as goal
 

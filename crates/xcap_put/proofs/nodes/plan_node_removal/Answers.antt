@@ -1,7 +1,7 @@
 use Rattle.std.proofs.Common.{Result, subst}
 use Rattle.edit_ops.specs.declared.change.Change.{Change}
 use Rattle.edit_rules.specs.Deletions.{IsDeletePlan}
-use Rattle.edit_rules.specs.declared.refusal.EditRefusal.{EditRefusal}
+use Rattle.edit_rules.specs.declared.edit_refusal.EditRefusal.{EditRefusal}
 use Rattle.xcap_put.proofs.PlanAnswers.{delete_may}
 use Rattle.xcap_put.proofs.DeletePlans.{cut, removal_refusal}
 use Rattle.xcap_put.proofs.nodes.plan_node_removal.Goals as goal

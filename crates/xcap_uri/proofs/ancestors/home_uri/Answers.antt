@@ -8,6 +8,6 @@ returns c = record {
       let auid = c.args.auid in let home = c.args.home.now in let root = c.args.root.now in
       let made : c.in_ok-id.id ≡ home_front auid home ++ 47 ∷ [] =
       c.in_ok-id.ensures.ok ∙ unnamed_id auid home in
-      let short = c.without_last.ensures.drops_last (home_front auid home) 47 (c.as_str.ensures.same_chars ∙ made) in
+      let short = c.drop_last_char.ensures.drops_last (home_front auid home) 47 (c.as_str.ensures.same_chars ∙ made) in
       subst (λ (z : List ℕ). IfOk c.uri_under.result (λ uri. uri ≡ z)) (ap (λ (z : List ℕ). root ++ (codes "/" ++ z)) short ∙ uri_of_front root auid home) c.uri_under.ensures.ok;
 }

@@ -1,5 +1,5 @@
 use Rattle.std.proofs.Common.{◌≡◌, ◌+◌, drop}
-use Rattle.xml_tokens.specs.readers.Runs.{run_len}
+use Rattle.xml_tokens.specs.readers.CharacterRuns.{run_len}
 use Rattle.xml_names.specs.Characters.{is_name_char}
 use Rattle.xcap_uri.proofs.query.name_len.Given as goal
 

@@ -13,5 +13,5 @@ returns-in_err-item c = record {
 
 pub items-preserved : goal.items-preserved
 items-preserved c =
-    rw (c.in_ok-bind.ensures.appended, c.as_str.ensures.same_chars, c.as_str-in-items.ensures.same_chars, c.past_blanks-rest-in-items.ensures.exact)
+    rw (c.in_ok-bind.ensures.appended, c.as_str.ensures.same_chars, c.as_str-in-items.ensures.same_chars, c.skip_blanks-rest-in-items.ensures.exact)
     (goes_on (parsed_bindings c.args.text.now) c.items.bindings (length c.args.text.now) c.items.counter c.items.rest.now c.items-test.true (grind arith) c.items.invariant (record { prefix = c.in_ok-item.item.prefix; uri = c.in_ok-item.item.uri }) c.in_ok-item.item.rest.now c.in_ok-item.ensures.reads_rule)

@@ -8,7 +8,7 @@ returns c =
     let root = c.args.root.now in
     let target = c.args.target.now in
     record {
-      rules_answer = target_answered root target c.read.result c.read.ensures.stated_answer;
-      outside_without_memory = c.read.ensures.outside_is_refused;
-      readable_ids = answer_nameable (parsed_target root target) c.read.result (target_readable root target) c.read.ensures.stated_answer;
+      rules_answer = target_answered root target c.read_under_root.result c.read_under_root.ensures.stated_answer;
+      outside_without_memory = c.read_under_root.ensures.outside_is_refused;
+      readable_ids = answer_nameable (parsed_target root target) c.read_under_root.result (target_readable root target) c.read_under_root.ensures.stated_answer;
     }

@@ -1,7 +1,7 @@
 use Rattle.std.proofs.Common.{◌≡◌, ℕ, List, ◌++◌, chars, length}
 use denote.Text.{Utf8}
 use denote.Shadow.{shadow}
-use Rattle.xml_grammar.specs.readers.Functions.{read_up_to}
+use Rattle.xml_grammar.specs.readers.RuleReaders.{read_up_to}
 use Rattle.xml_names.specs.Characters.{is_char}
 use Rattle.xml_tokens.specs.declared.fault_kind.FaultKind.{FaultKind}
 use Rattle.xml_tokens.proofs.RunLemmas.{with_front}

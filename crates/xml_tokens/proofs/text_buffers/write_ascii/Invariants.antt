@@ -1,6 +1,6 @@
 use Rattle.std.proofs.Common.{◌≡◌, true, take}
 use Rattle.std.specs.List.{list_all}
-use Rattle.xml_tokens.specs.readers.Runs.{is_ascii}
+use Rattle.xml_tokens.specs.readers.CharacterRuns.{is_ascii}
 use Rattle.xml_tokens.proofs.text_buffers.write_ascii.Given as goal
 
 abbrev pub invariant-loop-i : goal.invariant-loop-i

@@ -13,8 +13,8 @@ printed_len-returns-then-is_empty t c = record {
   exact =
       let e = c.args.element.now in let ns = c.nodes-nodes.result.now in
       let none = no_nodes ns e.content c.nodes-nodes.ensures.nodes_content (eqb-true (length ns) 0 (sym c.is_empty.ensures ∙ c.if-is_empty.true)) in
-      bare_sum 18446744073709551615 (byte_len (tag_front e.name e.decls e.attrs)) c.opening_len-tag_front.result c.saturating_add.result (byte_len (print e))
-      c.opening_len-tag_front.ensures.exact c.saturating_add.ensures (byte_len-bare e none);
+      bare_sum 18446744073709551615 (byte_len (tag_front e.name e.decls e.attrs)) c.tag_front_len-tag_front.result c.saturating_add.result (byte_len (print e))
+      c.tag_front_len-tag_front.ensures.exact c.saturating_add.ensures (byte_len-bare e none);
 }
 
 pub printed_len-loop-node-preserved : goal.printed_len-loop-node-preserved
@@ -36,8 +36,8 @@ printed_len-returns t c = record {
       let end = ap (λ l. byte_len (print_content (content_of l))) (drop_all i ns c.loop-node-test.false) in
       let all : byte_len (print_content (content_of ns)) ≡ byte_len (print_content e.content) = ap (λ k. byte_len (print_content k)) c.nodes-nodes.ensures.nodes_content in
       whole_sum 18446744073709551615 (byte_len (tag_front e.name e.decls e.attrs)) (byte_len (print_content (content_of ns))) (byte_len (print_name e.name))
-      c.name_len.result c.opening_len-tag_front.result c.loop-node.inside c.saturating_add-2.result c.saturating_add-3.result c.saturating_add-4.result
+      c.name_len.result c.tag_front_len-tag_front.result c.loop-node.inside c.saturating_add-2.result c.saturating_add-3.result c.saturating_add-4.result
       (byte_len (print e)) (byte_len (print_content (content_of (drop i ns))))
-      c.opening_len-tag_front.ensures.exact c.loop-node.invariant.counted c.loop-node.invariant.fits end (c.name_len.ensures.exact ∙ ap (λ n. min (byte_len (print_name n)) 18446744073709551615) c.name.ensures.exact) c.saturating_add-2.ensures c.saturating_add-3.ensures c.saturating_add-4.ensures
+      c.tag_front_len-tag_front.ensures.exact c.loop-node.invariant.counted c.loop-node.invariant.fits end (c.name_len.ensures.exact ∙ ap (λ n. min (byte_len (print_name n)) 18446744073709551615) c.name.ensures.exact) c.saturating_add-2.ensures c.saturating_add-3.ensures c.saturating_add-4.ensures
       (byte_len-whole e some ∙ omega (arith, all, byte_len-end_tag_text e.name));
 }

@@ -26,7 +26,7 @@ use denote.Triple.Entry.{on_entry}
 use denote.Triple.Spec.{Meets, triple_of}
 use denote.Triple.Table.{entered}
 use denote.Triple.Walked.{says, Stays, stay_ref, walk_of, AllGo, Goes-ref, Walks, ends_at, walked, walk_Meets}
-use Rattle.change_log.specs.Moments.{with_draft}
+use Rattle.change_log.specs.LogHistories.{with_draft}
 use Rattle.change_log.specs.declared.log_history.LogHistory.{LogHistory}
 use Rattle.change_log.specs.contracts.log_history.LogHistory as Kept
 use Rattle.change_log.specs.contracts.log_history.LogHistory.begin_draft as it

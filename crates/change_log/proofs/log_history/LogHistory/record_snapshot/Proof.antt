@@ -30,7 +30,7 @@ use denote.Triple.Entry.{on_entry}
 use denote.Triple.Spec.{Meets, triple_of}
 use denote.Triple.Table.{entered}
 use denote.Triple.Walked.{says, Stays, stay_ref, stay_none, walk_of, AllGo, Goes-ref, Goes-none, Walks, ends_at, walked, walk_Meets}
-use Rattle.change_log.specs.Moments.{with_snapshot}
+use Rattle.change_log.specs.LogHistories.{with_snapshot}
 use Rattle.change_log.specs.declared.log_history.LogHistory.{LogHistory}
 use Rattle.change_log.specs.contracts.log_history.LogHistory as Kept
 use Rattle.change_log.specs.contracts.log_history.LogHistory.record_snapshot as it

@@ -1,6 +1,6 @@
 use Rattle.std.proofs.Common.{true, ap}
 use Rattle.std.proofs.lemmas.Result.{MatchResult-from_err}
-use Rattle.edit_journal.specs.Logs.{LogState}
+use Rattle.edit_journal.specs.JournalLogs.{LogState}
 use Rattle.edit_journal.proofs.LogLemmas.{whole_len, behind_some}
 use Rattle.edit_journal.proofs.journal_log.JournalLog.add.Goals as goal
 

@@ -1,7 +1,7 @@
 use Rattle.std.proofs.Common.{◌≡◌, List, ℕ, length, ap, ◌∙◌, subst, arith, Ok}
 use Rattle.std.proofs.lemmas.Result.{err_from_is_err_and}
-use Rattle.edit_journal.specs.Logs.{LogState, AddsRecord}
-use Rattle.edit_journal.specs.inner.AppendSteps.{Added, NotAdded}
+use Rattle.edit_journal.specs.JournalLogs.{LogState, AddsRecord}
+use Rattle.edit_journal.specs.inner.AppendSteps.{AppendsToLog, FailsToAppend}
 use Rattle.edit_journal.specs.Records.{record_of}
 use Rattle.edit_journal.proofs.Lengths.{record_length}
 use Rattle.edit_journal.proofs.WholeRecords.{adding_keeps_records}
@@ -25,8 +25,8 @@ returns-in_err-add-clause-adds_record g c =
     let same : c.as_slice.result.now ≡ record_of c.args.request.now = c.as_slice.ensures.exact ∙ c.in_ok-record.ensures.ok in
     let mid = g.J.Journal.state c.repair.new.journal in
     let new = g.J.Journal.state c.add.new.journal in
-    let not : NotAdded c.repair.new.self mid (record_of c.args.request.now) c.add.new.self new =
-    subst (λ (l : List ℕ). NotAdded c.repair.new.self mid l c.add.new.self new) same c.in_err-add.ensures.err_keeps_whole in
+    let not : FailsToAppend c.repair.new.self mid (record_of c.args.request.now) c.add.new.self new =
+    subst (λ (l : List ℕ). FailsToAppend c.repair.new.self mid l c.add.new.self new) same c.in_err-add.ensures.err_keeps_whole in
     rw (p.1, p.2) (not_added_on c.args.self.now (g.J.Journal.state c.args.journal.now) c.repair.new.self mid c.add.new.self new (record_of c.args.request.now) c.in_ok-repair.ensures.repairs_tail not)
 
 pub returns-in_err-repair-clause-keeps_records : goal.returns-in_err-repair-clause-keeps_records
@@ -45,8 +45,8 @@ returns-clause-keeps_records g c =
     let old = g.J.Journal.state c.args.journal.now in
     let mid = g.J.Journal.state c.repair.new.journal in
     let new = g.J.Journal.state c.add.new.journal in
-    let added : Added c.repair.new.self mid (record_of c.args.request.now) c.add.new.self new =
-    subst (λ (l : List ℕ). Added c.repair.new.self mid l c.add.new.self new) same c.in_ok-add.ensures.adds_bytes in
+    let added : AppendsToLog c.repair.new.self mid (record_of c.args.request.now) c.add.new.self new =
+    subst (λ (l : List ℕ). AppendsToLog c.repair.new.self mid l c.add.new.self new) same c.in_ok-add.ensures.adds_bytes in
     let adds : AddsRecord (record { log = c.args.self.now; journal = old }) (record_of c.args.request.now) (Ok tt) (record { log = c.add.new.self; journal = new }) =
     added_on c.args.self.now old c.repair.new.self mid c.add.new.self new (record_of c.args.request.now) c.in_ok-repair.ensures.repairs_tail added in
     adding_keeps_records c.args.self.now c.add.new.self old new c.args.request.now (Ok tt) c.requires.recordable adds

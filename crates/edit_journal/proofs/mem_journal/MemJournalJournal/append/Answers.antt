@@ -1,5 +1,5 @@
 use Rattle.std.proofs.Common.{◌≡◌, ◌/◌, ◌++◌, length, take, ap, sym, ◌∙◌, arith, append-nil}
-use Rattle.edit_journal.specs.Memory.{MemoryJournal}
+use Rattle.edit_journal.specs.MemoryJournals.{MemoryJournal}
 use Rattle.edit_journal.proofs.Pieces.{memory_stops}
 use Rattle.edit_journal.proofs.mem_journal.MemJournalJournal.append.Goals as goal
 
@@ -13,8 +13,8 @@ returns-then-not-has_room-clause-appends_bytes c =
 pub returns-then-fails-clause-appends_bytes : goal.returns-then-fails-clause-appends_bytes
 returns-then-fails-clause-appends_bytes c =
     let mid = c.is_failing_call-fails.new.self in
-    let before : c.fill_to.new.self.faults ≡ c.args.self.now.faults = ap (λ (m : MemoryJournal). m.faults) c.fill_to.ensures.exact ∙ ap (λ (m : MemoryJournal). m.faults) c.is_failing_call-fails.ensures.counts_call in
+    let before : c.append_piece.new.self.faults ≡ c.args.self.now.faults = ap (λ (m : MemoryJournal). m.faults) c.append_piece.ensures.exact ∙ ap (λ (m : MemoryJournal). m.faults) c.is_failing_call-fails.ensures.counts_call in
     memory_stops c.args.self.now c.fail-then-fails.new.self c.fail-then-fails.result c.args.bytes.now (length c.args.bytes.now / 2)
-    (ap (λ (m : MemoryJournal). m.held) c.fail-then-fails.ensures.counts_one_more ∙ ap (λ (m : MemoryJournal). m.held) c.fill_to.ensures.exact
+    (ap (λ (m : MemoryJournal). m.held) c.fail-then-fails.ensures.counts_one_more ∙ ap (λ (m : MemoryJournal). m.held) c.append_piece.ensures.exact
     ∙ ap (λ (m : MemoryJournal). m.held ++ take (length c.args.bytes.now / 2) c.args.bytes.now) c.is_failing_call-fails.ensures.counts_call)
     (omega (arith, before, c.fail-then-fails.ensures.count_never_falls)) (omega (arith, before, c.fail-then-fails.ensures.count_rises))

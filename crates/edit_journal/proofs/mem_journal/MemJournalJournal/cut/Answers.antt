@@ -1,5 +1,5 @@
 use Rattle.std.proofs.Common.{◌≡◌, ap, ◌∙◌, arith}
-use Rattle.edit_journal.specs.Memory.{MemoryJournal}
+use Rattle.edit_journal.specs.MemoryJournals.{MemoryJournal}
 use Rattle.edit_journal.proofs.Pieces.{memory_keeps}
 use Rattle.edit_journal.proofs.mem_journal.MemJournalJournal.cut.Goals as goal
 

@@ -9,4 +9,4 @@ returns-clause-next_bytes c =
 pub returns-clause-only_reads : goal.returns-clause-only_reads
 returns-clause-only_reads c =
     let self = c.args.self.now in
-    read_of_hall self.begun c.args.id.number self.clients.items c.read_client-result.new.clients.items self.log.state c.then-self.result.state c.read_client-result.new.buf c.read_client-result.result self.counted c.read_client-result.ensures.reads c.then-self.ensures.call_is_logged
+    read_of_hall self.begun c.args.id.number self.clients.items c.read_client-result.new.clients.items self.log.state c.with_call-self.result.state c.read_client-result.new.buf c.read_client-result.result self.counted c.read_client-result.ensures.reads c.with_call-self.ensures.call_is_logged

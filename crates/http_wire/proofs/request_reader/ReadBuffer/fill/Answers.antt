@@ -1,8 +1,8 @@
 use Rattle.std.proofs.Common.{rules, ◌≡◌, ◌-◌, take, ℕ, List, [], slice_range, ap, subst, sym, ◌∙◌, arith}
 use Rattle.std.specs.Vec.{with_items}
 use Rattle.std.proofs.lemmas.List.{append-nil, length-take-le, places, with_items_is}
-use Rattle.xcap_io.specs.Causes.{InputState}
-use Rattle.xcap_io.specs.StreamTraffic.{Gave}
+use Rattle.xcap_io.specs.StreamStates.{InputState}
+use Rattle.xcap_io.specs.StreamTraffic.{GivesBytes}
 use Rattle.xcap_io.proofs.TrafficSums.{found_end, gave_none}
 use Rattle.http_wire.proofs.Buffers.{filled, unfilled, gained}
 use Rattle.http_wire.proofs.request_reader.ReadBuffer.fill.Goals as goal
@@ -44,5 +44,5 @@ pub returns-in-Err-clause-gains_source_bytes : goal.returns-in-Err-clause-gains_
 returns-in-Err-clause-gains_source_bytes g c = record {
   read = [];
   added = returns-in-Err-clause-err_unchanged g c ∙ sym (append-nil c.args.self.now);
-  given = subst (λ (now : InputState). Gave (g.S.Line.state c.args.source.now).inward now []) (sym c.in-Err.ensures.appends_read) (gave_none _);
+  given = subst (λ (now : InputState). GivesBytes (g.S.Line.state c.args.source.now).inward now []) (sym c.in-Err.ensures.appends_read) (gave_none _);
 }

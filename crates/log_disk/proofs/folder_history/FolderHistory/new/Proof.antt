@@ -21,7 +21,7 @@ use denote.Triple.Entry.{on_entry, alive}
 use denote.Triple.Spec.{Meets, triple_of}
 use denote.Triple.Table.{entered}
 use denote.Triple.Walked.{says, Stays, walk_of, Walks, ends_at, walked, walk_Meets}
-use Rattle.log_disk.specs.Folders.{opened_on}
+use Rattle.log_disk.specs.FolderStates.{opened_folder}
 use Rattle.log_disk.specs.contracts.folder_history.FolderHistory as Kept
 use Rattle.log_disk.specs.contracts.folder_history.FolderHistory.new as it
 use Rattle.log_disk.specs.contracts.folder_history.FolderHistory.new.Key.{name as key}
@@ -44,8 +44,8 @@ module _ {M : Type 1} {𝓤 : Ura M} (𝓛 : Logic 𝓤) (at_mem : Memory → SP
         qed 𝓛 (raw (alive 𝓛 it.signature tt tt) ∷ ‵ (owns [] tt tt) ∷ []) ∵ enter ! C Λ code.function [] _ $
         alloc_all ! (λ l. pass_all ! refl tt $ sets ! (agg ! (no_more !)) refl (tt, tt) $
         returns ! (look_at ! 0 refl) $ free_all ! refl $
-        suffices ! _ (ends_at 𝓛 it.ended no_params (it.clauses 𝓛 at_mem run) start (vstruct vnil) (record { folder = opened_on [] }) tt tt) $
-        says ! refl $ pure_i ! (Kept.the_row.own_val (record { folder = opened_on [] }) (vstruct vnil ∷ [])) ((λ vss. (tt, tt)), tt) ((tt, (refl, tt)), tt) $
+        suffices ! _ (ends_at 𝓛 it.ended no_params (it.clauses 𝓛 at_mem run) start (vstruct vnil) (record { folder = opened_folder [] }) tt tt) $
+        says ! refl $ pure_i ! (Kept.the_row.own_val (record { folder = opened_folder [] }) (vstruct vnil ∷ [])) ((λ vss. (tt, tt)), tt) ((tt, (refl, tt)), tt) $
         move ! (1 ∷ 2 ∷ 0 ∷ []) $ done !)
 
     walks : Walks 𝓛 it.ended no_params (WpFn 𝓤 H C Λ code.function) (it.clauses 𝓛 at_mem run)

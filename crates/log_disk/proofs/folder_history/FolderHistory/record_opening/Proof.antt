@@ -29,7 +29,7 @@ use denote.Triple.Entry.{on_entry}
 use denote.Triple.Spec.{Meets, triple_of}
 use denote.Triple.Table.{entered}
 use denote.Triple.Walked.{says, Stays, stay_ref, stay_none_slice, walk_of, AllGo, Goes-ref, Goes-none_slice, Walks, ends_at, walked, walk_Meets}
-use Rattle.log_disk.specs.Folders.{opened_on}
+use Rattle.log_disk.specs.FolderStates.{opened_folder}
 use Rattle.log_disk.specs.declared.folder_history.FolderHistory.{FolderHistory}
 use Rattle.log_disk.specs.contracts.folder_history.FolderHistory as Kept
 use Rattle.log_disk.specs.contracts.folder_history.FolderHistory.record_opening as it
@@ -51,7 +51,7 @@ module _ {M : Type 1} {𝓤 : Ura M} (𝓛 : Logic 𝓤) (at_mem : Memory → SP
   given = (record { ref_ptr = (b, o); ghost_name = γ; now = before }, (bytes, tt))
 
   abbrev after : FolderHistory
-  after = record { folder = opened_on bytes.now }
+  after = record { folder = opened_folder bytes.now }
 
   abbrev at : List Val × (List Val × Unit {0})
   at = (vptr b o ∷ [], (slice_val bytes.ref_ptr (length bytes.now) ∷ [], tt))

@@ -26,7 +26,7 @@ use denote.Triple.Entry.{on_entry}
 use denote.Triple.Spec.{Meets, triple_of}
 use denote.Triple.Table.{entered}
 use denote.Triple.Walked.{says, Stays, stay_ref, walk_of, AllGo, Goes-ref, Walks, ends_at, walked, walk_Meets}
-use Rattle.log_disk.specs.Folders.{with_step, with_ready_draft}
+use Rattle.log_disk.specs.FolderStates.{with_step, with_ready_draft}
 use Rattle.log_disk.specs.declared.folder_history.FolderHistory.{FolderHistory}
 use Rattle.log_disk.specs.contracts.folder_history.FolderHistory as Kept
 use Rattle.log_disk.specs.contracts.folder_history.FolderHistory.record_ready_draft as it

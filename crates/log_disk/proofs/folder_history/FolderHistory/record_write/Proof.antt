@@ -29,7 +29,7 @@ use denote.Triple.Entry.{on_entry}
 use denote.Triple.Spec.{Meets, triple_of}
 use denote.Triple.Table.{entered}
 use denote.Triple.Walked.{says, Stays, stay_ref, stay_none_slice, walk_of, AllGo, Goes-ref, Goes-none_slice, Walks, ends_at, walked, walk_Meets}
-use Rattle.log_disk.specs.Folders.{with_step, with_write}
+use Rattle.log_disk.specs.FolderStates.{with_step, with_write}
 use Rattle.log_disk.specs.declared.folder_history.FolderHistory.{FolderHistory}
 use Rattle.log_disk.specs.contracts.folder_history.FolderHistory as Kept
 use Rattle.log_disk.specs.contracts.folder_history.FolderHistory.record_write as it

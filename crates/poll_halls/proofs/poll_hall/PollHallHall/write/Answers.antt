@@ -1,6 +1,6 @@
 use Rattle.std.proofs.Common.{sym, subst}
 use Rattle.halls.specs.HallState.{HallState}
-use Rattle.poll_halls.specs.inner.Places.{IsKept}
+use Rattle.poll_halls.specs.inner.ConnectionPlaces.{HoldsBetweenCalls}
 use Rattle.poll_halls.proofs.OpenPlaces.{kept_write}
 use Rattle.poll_halls.proofs.poll_hall.PollHallHall.write.Goals as goal
 
@@ -8,6 +8,6 @@ pub invariant_of-self : goal.invariant_of-self
 invariant_of-self g c =
     let self = c.args.self.now in
     record {
-      kept = subst (λ (hall : HallState). IsKept self.numbers.items self.begun hall) (sym c.then-self.ensures.call_is_logged)
+      kept = subst (λ (hall : HallState). HoldsBetweenCalls self.numbers.items self.begun hall) (sym c.with_call-self.ensures.call_is_logged)
           (kept_write self.numbers.items self.begun self.log.state c.args.id.number c.args.piece.now c.write_at-result.result self.kept);
     }

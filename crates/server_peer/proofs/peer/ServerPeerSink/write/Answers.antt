@@ -1,7 +1,7 @@
 use Rattle.std.proofs.Common.{◌≡◌, ℕ, ◌<◌, ◌≤◌, inr, List, ◌++◌, length, take, sym, ap, ◌∙◌, arith, append-nil}
-use Rattle.xcap_io.specs.Memory.{one_more}
+use Rattle.xcap_io.specs.MemoryStreams.{count_plus_one}
 use Rattle.server_peer.specs.Peers.{PeerOverServer}
-use Rattle.server_peer.specs.Rooms.{WrittenState}
+use Rattle.server_peer.specs.BufferStates.{WrittenState}
 use Rattle.server_peer.specs.contracts.peer.ServerPeer.{the_view}
 use Rattle.server_peer.proofs.peer.ServerPeerSink.write.Goals as goal
 
@@ -18,7 +18,7 @@ returns-then-count-eq0-clause-as_memory_form c =
     ∙ ap (λ (n : ℕ). record w { bytes = w.bytes ++ take n c.args.piece.now }) none
     ∙ ap (λ (l : List ℕ). record w { bytes = l }) (append-nil w.bytes) in (
       inr (ap (λ (p : PeerOverServer). length p.written.bytes) (sym c.self.view_is) ∙ full ∙ ap (λ (p : PeerOverServer). p.written.room) c.self.view_is),
-      ap (λ (x : WrittenState). the_view (record inside { written = x; write_faults = c.fault-then-count-eq0.new.count })) same
-          ∙ ap (λ (n : ℕ). the_view (record inside { write_faults = n })) c.fault-then-count-eq0.ensures.counts_one_more
-          ∙ ap (λ (p : PeerOverServer). record p { write_faults = one_more p.write_faults }) c.self.view_is,
+      ap (λ (x : WrittenState). the_view (record inside { written = x; write_faults = c.count_fault-then-count-eq0.new.count })) same
+          ∙ ap (λ (n : ℕ). the_view (record inside { write_faults = n })) c.count_fault-then-count-eq0.ensures.counts_one_more
+          ∙ ap (λ (p : PeerOverServer). record p { write_faults = count_plus_one p.write_faults }) c.self.view_is,
     )

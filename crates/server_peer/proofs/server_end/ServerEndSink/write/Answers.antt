@@ -1,7 +1,7 @@
 use Rattle.std.proofs.Common.{◌≡◌, ℕ, ◌+◌, ◌-◌, nat_lt, Bool, ◌||◌, List, ◌++◌, length, take, drop, refl, sym, ap, ◌∙◌, arith, subst}
 use Rattle.std.proofs.lemmas.List.{drop-drop}
-use Rattle.xcap_io.specs.Histories.{ConnectionHistory}
-use Rattle.server_peer.specs.inner.Ends.{KeepsFront}
+use Rattle.xcap_io.specs.ConnectionHistories.{ConnectionHistory}
+use Rattle.server_peer.specs.inner.ServerEnds.{KeepsReplyFront}
 use Rattle.server_peer.proofs.ReplyFronts.{keeps_more}
 use Rattle.server_peer.proofs.server_end.ServerEndSink.write.Goals as goal
 
@@ -18,5 +18,5 @@ invariant_of-self-clause-keeps c =
     let same : held + n - held ≡ n = omega arith in
     let taken : c.record_write.new.self.history.now.taken ≡ replies ++ piece = ap (λ (h : ConnectionHistory). h.now.taken) c.record_write.ensures.taken_is_logged in
     let back : behind ≡ drop (held + n) room = ap (λ (m : ℕ). drop m (drop held room)) same ∙ drop-drop n held room in
-    subst (λ (l : List ℕ). KeepsFront (take held room ++ (mid ++ behind)) (held + n) (over || nat_lt n (length piece)) l) (sym taken)
+    subst (λ (l : List ℕ). KeepsReplyFront (take held room ++ (mid ++ behind)) (held + n) (over || nat_lt n (length piece)) l) (sym taken)
     (keeps_more room replies piece mid behind held n over (over || nat_lt n (length piece)) c.args.self.now.keeps c.min-count.ensures c.copy_from_slice.ensures.after back refl)

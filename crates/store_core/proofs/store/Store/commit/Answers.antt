@@ -1,35 +1,35 @@
 use Rattle.std.proofs.Common.{refl}
 use Rattle.indexmap.specs.IndexMap.{spare}
-use Rattle.store_core.specs.PreparedChanges.{Readied}
-use Rattle.store_core.specs.StoreViews.{Room}
-use Rattle.store_core.specs.inner.StoreMemory.{trees_in}
+use Rattle.store_core.specs.PreparedChanges.{PreparedChange}
+use Rattle.store_core.specs.StoreViews.{SpareCapacity}
+use Rattle.store_core.specs.inner.StoreMemory.{unshared_flags}
 use Rattle.store_core.proofs.CommitLemmas.{holds-next, may-step, still-storing}
 use Rattle.store_core.proofs.store.Store.commit.Goals as goal
 
-pub take-created-requires-clause-fits : goal.take-created-requires-clause-fits
-take-created-requires-clause-fits c =
+pub apply_to-created-requires-clause-fits : goal.apply_to-created-requires-clause-fits
+apply_to-created-requires-clause-fits c =
     let s = c.self.inside in
     let p = c.prepared.inside in
-    let room : Room = record { documents = spare s.documents; services = spare s.services; trees = trees_in s.documents.entries } in
-    let seen : Readied = record { doc = p.doc; note = p.note; step = p.step; leaves = p.leaves; enters = p.enters; total = p.total } in
+    let room : SpareCapacity = record { documents = spare s.documents; services = spare s.services; trees = unshared_flags s.documents.entries } in
+    let seen : PreparedChange = record { doc = p.doc; note = p.note; step = p.step; leaves = p.leaves; enters = p.enters; total = p.total } in
     may-step s.documents.entries s.services.entries s.last s.total room c.args.self.now seen c.args.prepared c.self.view_is c.prepared.view_is c.self.invariant c.requires refl
 
 pub invariant_of-self : goal.invariant_of-self
 invariant_of-self c =
     let s = c.self.inside in
     let p = c.prepared.inside in
-    let room : Room = record { documents = spare s.documents; services = spare s.services; trees = trees_in s.documents.entries } in
-    let seen : Readied = record { doc = p.doc; note = p.note; step = p.step; leaves = p.leaves; enters = p.enters; total = p.total } in
+    let room : SpareCapacity = record { documents = spare s.documents; services = spare s.services; trees = unshared_flags s.documents.entries } in
+    let seen : PreparedChange = record { doc = p.doc; note = p.note; step = p.step; leaves = p.leaves; enters = p.enters; total = p.total } in
     still-storing s.documents.entries s.services.entries s.last s.total room c.args.self.now seen c.args.prepared c.self.view_is c.prepared.view_is c.self.invariant c.requires
-    c.leave.new.registry.entries c.enter.new.registry.entries c.take-created.new.documents.entries c.take-created.result c.next-number.result c.as_slice.result.now c.into_vec.result.items c.next-number.ensures.tag_after c.take-created.ensures.takes_step c.as_slice.ensures.exact c.into_vec.ensures.same_items
-    c.leave.ensures.frees_addresses c.enter.ensures.registers_these
+    c.release_addresses.new.registry.entries c.register_addresses.new.registry.entries c.apply_to-created.new.documents.entries c.apply_to-created.result c.next-number.result c.as_slice.result.now c.into_vec.result.items c.next-number.ensures.tag_after c.apply_to-created.ensures.takes_step c.as_slice.ensures.exact c.into_vec.ensures.same_items
+    c.release_addresses.ensures.frees_addresses c.register_addresses.ensures.registers_these
 
 pub returns-clause-holds_change : goal.returns-clause-holds_change
 returns-clause-holds_change c =
     let s = c.self.inside in
     let p = c.prepared.inside in
-    let room : Room = record { documents = spare s.documents; services = spare s.services; trees = trees_in s.documents.entries } in
-    let seen : Readied = record { doc = p.doc; note = p.note; step = p.step; leaves = p.leaves; enters = p.enters; total = p.total } in
+    let room : SpareCapacity = record { documents = spare s.documents; services = spare s.services; trees = unshared_flags s.documents.entries } in
+    let seen : PreparedChange = record { doc = p.doc; note = p.note; step = p.step; leaves = p.leaves; enters = p.enters; total = p.total } in
     holds-next s.documents.entries s.services.entries s.last s.total room c.args.self.now seen c.args.prepared c.self.view_is c.prepared.view_is c.self.invariant c.requires
-    c.leave.new.registry.entries c.enter.new.registry.entries c.take-created.new.documents.entries c.take-created.result c.next-number.result c.as_slice.result.now c.into_vec.result.items c.next-number.ensures.tag_after c.take-created.ensures.takes_step c.as_slice.ensures.exact c.into_vec.ensures.same_items
-    c.leave.ensures.frees_addresses c.enter.ensures.registers_these
+    c.release_addresses.new.registry.entries c.register_addresses.new.registry.entries c.apply_to-created.new.documents.entries c.apply_to-created.result c.next-number.result c.as_slice.result.now c.into_vec.result.items c.next-number.ensures.tag_after c.apply_to-created.ensures.takes_step c.as_slice.ensures.exact c.into_vec.ensures.same_items
+    c.release_addresses.ensures.frees_addresses c.register_addresses.ensures.registers_these

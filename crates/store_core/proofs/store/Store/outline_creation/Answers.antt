@@ -9,13 +9,13 @@ refusal_of_new-requires c = c.requires.0
 pub returns-in-Some-clause-err_refusal : goal.returns-in-Some-clause-err_refusal
 returns-in-Some-clause-err_refusal c =
     let root = c.args.root.now in
-    let len = c.document_len-len.ensures.counts_document root c.put_root-put.ensures.counts_root in
+    let len = c.document_len-len.ensures.counts_document root c.measure_root-put.ensures.counts_root in
     creation-refused c.args.self.now.content c.args.doc.now root c.in-Some.refusal (sym (c.in-Some.ensures.first_refusal root len (c.as_slice.ensures.exact ∙ c.in_ok-enters.ensures.ok)))
 
 pub returns-in_default-next_number-clause-err_refusal : goal.returns-in_default-next_number-clause-err_refusal
 returns-in_default-next_number-clause-err_refusal c =
     let root = c.args.root.now in
-    let len = c.document_len-len.ensures.counts_document root c.put_root-put.ensures.counts_root in
+    let len = c.document_len-len.ensures.counts_document root c.measure_root-put.ensures.counts_root in
     let free = sym (c.refusal_of_new.ensures.first_refusal root len (c.as_slice.ensures.exact ∙ c.in_ok-enters.ensures.ok)) ∙ c.in_default.is in
     creation-unnumbered c.args.self.now.content c.args.doc.now root NoNumber free (c.next_number.ensures.none_at_end c.in_default-next_number.is)
 
@@ -23,14 +23,14 @@ pub returns-clause-ok_outline : goal.returns-clause-ok_outline
 returns-clause-ok_outline c =
     let content = c.args.self.now.content in
     let root = c.args.root.now in
-    let len = c.document_len-len.ensures.counts_document root c.put_root-put.ensures.counts_root in
+    let len = c.document_len-len.ensures.counts_document root c.measure_root-put.ensures.counts_root in
     let free = sym (c.refusal_of_new.ensures.first_refusal root len (c.as_slice.ensures.exact ∙ c.in_ok-enters.ensures.ok)) ∙ c.in_default.is in
     let room = creation-room content c.args.doc.now root c.requires.0 free in
     record {
       free = free;
       numbered = c.in-Some-next_number.ensures.some_is_free.1;
       number = c.in-Some-next_number.ensures.some_is_free.0;
-      print = c.put_root-put.ensures.prints_document;
+      print = c.measure_root-put.ensures.prints_document;
       len = omega (arith, len, room.1);
       total = omega (arith, room.0, room.1, c.total-sum.ensures.exact, len, c.saturating_add-total.ensures);
       leaves = c.empty-leaves.ensures.holds_no_items;

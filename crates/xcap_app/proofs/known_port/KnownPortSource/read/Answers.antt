@@ -1,5 +1,5 @@
 use Rattle.std.proofs.Common.{◌≡◌, ◌+◌, ◌-◌, ◌<◌, ◌≤◌, ◌==◌, List, [], ℕ, min, take, drop, length, ap, sym, ◌∙◌, arith}
-use Rattle.xcap_io.specs.Histories.{ConnectionHistory}
+use Rattle.xcap_io.specs.ConnectionHistories.{ConnectionHistory}
 use Rattle.xcap_io.proofs.Steps.{gives_count, gives_next, is_none, none_left}
 use Rattle.xcap_app.proofs.known_port.KnownPortSource.read.Goals as goal
 

@@ -1,7 +1,7 @@
 use Rattle.std.proofs.Common.{rules, ◌≡◌, ◌+◌, take, [], ℕ, List, ◌++◌, ap, sym, subst, ◌∙◌, arith}
 use Rattle.std.proofs.lemmas.List.{places, with_items_is, append-nil, length-take-le, take_at}
-use Rattle.xcap_io.specs.Causes.{InputState}
-use Rattle.xcap_io.specs.StreamTraffic.{Gave}
+use Rattle.xcap_io.specs.StreamStates.{InputState}
+use Rattle.xcap_io.specs.StreamTraffic.{GivesBytes}
 use Rattle.xcap_io.proofs.TrafficSums.{found_end, gave_none}
 use Rattle.http_wire.proofs.Buffers.{gained, put_behind}
 use Rattle.xcap_client.proofs.read_buffer.ReadBuffer.fill.Goals as goal
@@ -41,5 +41,5 @@ pub returns-in-Err-clause-gains_source_bytes : goal.returns-in-Err-clause-gains_
 returns-in-Err-clause-gains_source_bytes g c = record {
   read = [];
   added = returns-in-Err-clause-err_unchanged g c ∙ sym (append-nil c.args.self.now);
-  given = subst (λ (now : InputState). Gave (g.S.Line.state c.args.source.now).inward now []) (sym c.in-Err.ensures.appends_read) (gave_none _);
+  given = subst (λ (now : InputState). GivesBytes (g.S.Line.state c.args.source.now).inward now []) (sym c.in-Err.ensures.appends_read) (gave_none _);
 }

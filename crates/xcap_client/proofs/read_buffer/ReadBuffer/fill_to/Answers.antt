@@ -2,7 +2,7 @@ use Rattle.std.proofs.Common.{Bool, Err, ap, sym, subst, ◌∙◌}
 use Rattle.std.proofs.lemmas.Result.{err_from_is_err_and}
 use Rattle.xcap_io.proofs.Lines.{reads_on}
 use Rattle.http_wire.proofs.ItemLemmas.{gains_on}
-use Rattle.xcap_client.specs.inner.FillErrors.{CountsStop}
+use Rattle.xcap_client.specs.inner.FillErrors.{CountsFillError}
 use Rattle.xcap_client.proofs.Counts.{stop_on}
 use Rattle.xcap_client.proofs.read_buffer.ReadBuffer.fill_to.Goals as goal
 
@@ -15,7 +15,7 @@ returns-in_err-fill-clause-only_reads g c = reads_on _ _ _ c.reading.invariant.r
 pub returns-in_err-fill-clause-faults_never_fall : goal.returns-in_err-fill-clause-faults_never_fall
 returns-in_err-fill-clause-faults_never_fall g c =
     let p = err_from_is_err_and c.from_residual.result c.from_residual.ensures.1 in
-    subst (CountsStop (g.S.Line.state c.args.source.now).read_faults (g.S.Line.state c.fill.new.source).read_faults) (sym (p.1 ∙ ap Err p.2))
+    subst (CountsFillError (g.S.Line.state c.args.source.now).read_faults (g.S.Line.state c.fill.new.source).read_faults) (sym (p.1 ∙ ap Err p.2))
     (stop_on Bool Bool _ _ _ c.in_err-fill.field-0.0 c.reading.invariant.no_fault c.in_err-fill.ensures.faults_never_fall)
 
 pub returns-then-not-branch-clause-gains_source_bytes : goal.returns-then-not-branch-clause-gains_source_bytes

@@ -1,6 +1,6 @@
 use Rattle.std.proofs.Common.{◌∷◌, refl, subst, ap, ◌∙◌}
 use Rattle.xcap_io.specs.Connections.{Connects}
-use Rattle.xcap_io.specs.Memory.{MemoryPeer, peer_state}
+use Rattle.xcap_io.specs.MemoryStreams.{MemoryPeer, peer_state}
 use Rattle.xcap_io.specs.contracts.mem_peer.MemPeer.{the_view}
 use Rattle.xcap_io.proofs.ConnectionStarts.{connects_to}
 use Rattle.xcap_io.proofs.mem_peer.MemPeerPeer.connect.Goals as goal

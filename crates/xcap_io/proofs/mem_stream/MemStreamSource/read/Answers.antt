@@ -1,11 +1,11 @@
 use Rattle.std.proofs.Common.{◌≡◌, ◌+◌, ◌-◌, ◌<◌, ◌==◌, List, [], ◌++◌, ℕ, take, drop, length, min, ap, sym, ◌∙◌, arith}
-use Rattle.xcap_io.specs.Histories.{ConnectionHistory}
-use Rattle.xcap_io.specs.Memory.{MemoryStream}
+use Rattle.xcap_io.specs.ConnectionHistories.{ConnectionHistory}
+use Rattle.xcap_io.specs.MemoryStreams.{MemoryStream}
 use Rattle.xcap_io.proofs.Steps.{gives_count, gives_next, is_none, none_left}
 use Rattle.xcap_io.proofs.mem_stream.MemStreamSource.read.Goals as goal
 
-pub max_given-requires : goal.max_given-requires
-max_given-requires c = let some : 0 < length c.args.buf.now = c.requires in omega (arith, c.self.invariant.0, c.min-wanted.ensures)
+pub max_read_len-requires : goal.max_read_len-requires
+max_read_len-requires c = let some : 0 < length c.args.buf.now = c.requires in omega (arith, c.self.invariant.0, c.min-wanted.ensures)
 
 pub returns-clause-appends_read : goal.returns-clause-appends_read
 returns-clause-appends_read c =

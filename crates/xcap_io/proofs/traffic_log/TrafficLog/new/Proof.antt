@@ -21,7 +21,7 @@ use denote.Triple.Entry.{on_entry, alive}
 use denote.Triple.Spec.{Meets, triple_of}
 use denote.Triple.Table.{entered}
 use denote.Triple.Walked.{says, Stays, walk_of, Walks, ends_at, walked, walk_Meets}
-use Rattle.xcap_io.specs.Histories.{no_history}
+use Rattle.xcap_io.specs.ConnectionHistories.{no_history}
 use Rattle.xcap_io.specs.contracts.traffic_log.TrafficLog as Kept
 use Rattle.xcap_io.specs.contracts.traffic_log.TrafficLog.new as it
 use Rattle.xcap_io.specs.contracts.traffic_log.TrafficLog.new.Key.{name as key}

@@ -29,7 +29,7 @@ use denote.Triple.Entry.{on_entry}
 use denote.Triple.Spec.{Meets, triple_of}
 use denote.Triple.Table.{entered}
 use denote.Triple.Walked.{says, Stays, stay_ref, stay_none_slice, walk_of, AllGo, Goes-ref, Goes-none_slice, Walks, ends_at, walked, walk_Meets}
-use Rattle.xcap_io.specs.Histories.{with_given}
+use Rattle.xcap_io.specs.ConnectionHistories.{with_read}
 use Rattle.xcap_io.specs.declared.traffic_log.TrafficLog.{TrafficLog}
 use Rattle.xcap_io.specs.contracts.traffic_log.TrafficLog as Kept
 use Rattle.xcap_io.specs.contracts.traffic_log.TrafficLog.record_read as it
@@ -51,7 +51,7 @@ module _ {M : Type 1} {𝓤 : Ura M} (𝓛 : Logic 𝓤) (at_mem : Memory → SP
   given = (record { ref_ptr = (b, o); ghost_name = γ; now = before }, (bytes, tt))
 
   abbrev after : TrafficLog
-  after = record { history = with_given before.history bytes.now }
+  after = record { history = with_read before.history bytes.now }
 
   abbrev at : List Val × (List Val × Unit {0})
   at = (vptr b o ∷ [], (slice_val bytes.ref_ptr (length bytes.now) ∷ [], tt))

@@ -4,7 +4,7 @@ use Rattle.store_core.specs.Contents.{Represents}
 use Rattle.store_core.specs.ValidStates.{IsValidState}
 use Rattle.store_core.specs.State.{State}
 use Rattle.xcap_machine.specs.Machine.{ValidStep}
-use Rattle.xcap_machine.specs.Servers.{ServerState}
+use Rattle.xcap_machine.specs.ServerStates.{ServerState}
 use Rattle.xcap_server.proofs.Redone.{redo_done, redo_nothing, redo_refused}
 use Rattle.xcap_server.proofs.replayer.ServerReplayer.redo.Goals as goal
 

@@ -1,6 +1,6 @@
 use Rattle.std.proofs.Common.{refl, subst}
 use Rattle.xcap_uri.specs.Roots.{IsRoot, authority_of, path_of}
-use Rattle.xcap_machine.specs.Servers.{ServerState}
+use Rattle.xcap_machine.specs.ServerStates.{ServerState}
 use Rattle.xcap_server.proofs.service.Service.is_rooted.Goals as goal
 
 pub returns : goal.returns

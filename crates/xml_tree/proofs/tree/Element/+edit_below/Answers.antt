@@ -6,7 +6,7 @@ use Rattle.xml_tree.proofs.KidLemmas.{below, whole, changed}
 use Rattle.xml_tree.proofs.tree.Element.+edit_below.Goals as goal
 
 pub invariant_of-self : goal.invariant_of-self
-invariant_of-self g t c = whole c.self.inside c.in-Some.first.now c.child_in-child_element.result.now c.edit_below.new.self c.child_in-child_element.ensures.lends_element c.self.invariant
+invariant_of-self g t c = whole c.self.inside c.in-Some.first.now c.child_mut-child_element.result.now c.edit_below.new.self c.child_mut-child_element.ensures.lends_element c.self.invariant
 
 pub returns-in-None : goal.returns-in-None
 returns-in-None g t c = record {
@@ -23,8 +23,8 @@ returns-in-Some g t c = record {
       record {
         here = done.here;
         left = done.left;
-        there = rw (c.in-Some.ensures.cases.0, ← c.self.view_is) (below c.self.inside n c.child_in-child_element.result.now c.edit_below.new.self c.child_in-child_element.ensures.lends_element p done.here done.there);
+        there = rw (c.in-Some.ensures.cases.0, ← c.self.view_is) (below c.self.inside n c.child_mut-child_element.result.now c.edit_below.new.self c.child_mut-child_element.ensures.lends_element p done.here done.there);
         edits = done.edits;
-        put = rw (c.in-Some.ensures.cases.0, ← c.self.view_is) (changed c.self.inside n c.child_in-child_element.result.now c.edit_below.new.self c.child_in-child_element.ensures.lends_element (put_over p done.left) done.put);
+        put = rw (c.in-Some.ensures.cases.0, ← c.self.view_is) (changed c.self.inside n c.child_mut-child_element.result.now c.edit_below.new.self c.child_mut-child_element.ensures.lends_element (put_over p done.left) done.put);
       };
 }

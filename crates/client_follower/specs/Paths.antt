@@ -1,9 +1,0 @@
--- The address of a feed: of all changes of a document since one of its versions, as one patch (RFC
--- 5875, section 4.3). The addresses of feeds are the project's own.
-use Rattle.std.specs.Prelude.{ℕ, List, ◌++◌, codes}
-use Rattle.doc_names.specs.declared.doc_id.DocId.{DocId}
-use Rattle.doc_names.specs.Escapes.{escaped_part}
-use Rattle.doc_names.specs.Ids.{id_text}
-
-abbrev pub feed_path : List ℕ → DocId → List ℕ
-feed_path tag doc = codes "~feed/aggregate/" ++ (escaped_part tag ++ (codes "/" ++ id_text doc))

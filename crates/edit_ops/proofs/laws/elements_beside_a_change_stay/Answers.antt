@@ -1,5 +1,0 @@
-use Rattle.edit_ops.proofs.MoveLaws.{others_stay}
-use Rattle.edit_ops.proofs.laws.elements_beside_a_change_stay.Goals as goal
-
-pub returns : goal.returns
-returns c = record { keeps_others = others_stay }

@@ -1,0 +1,12 @@
+use Rattle.std.proofs.Common.{◌≡◌, ◌≤◌, ◌+◌, length, drop}
+use Rattle.xml_tree.specs.Tree.{child_elements, child_elements_of}
+use Rattle.xml_tree.specs.Nodes.{content_of}
+use Rattle.edit_plans.proofs.remove_child.part_after_child.Given as goal
+
+abbrev pub invariant-loop-node : goal.invariant-loop-node
+invariant-loop-node l = record {
+  left : drop l.i (child_elements_of l.parent) ≡ child_elements (content_of (drop l.node-index l.node-items));
+  within : l.i ≤ length (child_elements_of l.parent);
+  small : l.i ≤ l.node-index;
+  not_past : l.i ≤ l.child + 1;
+}

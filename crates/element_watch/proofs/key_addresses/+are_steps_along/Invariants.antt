@@ -1,5 +1,0 @@
-use Rattle.std.proofs.Common.{length}
-use Rattle.element_watch.proofs.key_addresses.+are_steps_along.Given as goal
-
-abbrev pub decreases-are_steps_along : goal.decreases-are_steps_along
-decreases-are_steps_along l = length l.path.now

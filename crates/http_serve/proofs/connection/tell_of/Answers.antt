@@ -1,4 +1,0 @@
-use Rattle.http_serve.proofs.connection.tell_of.Goals as goal
-
-pub returns : goal.returns
-returns g c = record { notifies_watchers = rw c.in-Some.is c.notify.ensures.notifies_change }

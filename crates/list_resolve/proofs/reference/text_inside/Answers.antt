@@ -1,8 +1,0 @@
-use Rattle.std.proofs.Common.{◌++◌, ap, ◌∙◌}
-use Rattle.list_resolve.proofs.Texts.{all_text, nodes_text}
-use Rattle.list_resolve.proofs.reference.text_inside.Goals as goal
-
-pub loop-node-init : goal.loop-node-init
-loop-node-init c =
-    ap (λ xs. xs ++ nodes_text c.nodes-node-items.result.now) c.no_text-inside.ensures.holds_no_characters
-    ∙ all_text c.nodes-node-items.result.now c.args.element.now.content c.nodes-node-items.ensures.nodes_content

@@ -1,7 +1,0 @@
-use Rattle.std.proofs.Common.{◌≡◌, ◌++◌, drop}
-use Rattle.usage_docs.specs.Texts.{text_of}
-use Rattle.list_resolve.proofs.Texts.{nodes_text}
-use Rattle.list_resolve.proofs.reference.text_inside.Given as goal
-
-abbrev pub invariant-loop-node : goal.invariant-loop-node
-invariant-loop-node l = l.inside ++ nodes_text (drop l.node-index l.node-items) ≡ text_of l.element.content

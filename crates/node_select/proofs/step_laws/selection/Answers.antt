@@ -1,9 +1,0 @@
-use Rattle.node_select.proofs.SelectionAgreement.{one_selected, selected_is, no_zeroth}
-use Rattle.node_select.proofs.step_laws.selection.Goals as goal
-
-pub returns : goal.returns
-returns g c = record {
-  answer_is_one = one_selected;
-  computed_path = selected_is;
-  position_from_one = λ named tested child_elements i s. no_zeroth named tested child_elements i s.this;
-}

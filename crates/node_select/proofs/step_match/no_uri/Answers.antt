@@ -1,5 +1,0 @@
-use Rattle.std.proofs.lemmas.Str.{chars-nil}
-use Rattle.node_select.proofs.step_match.no_uri.Goals as goal
-
-pub returns : goal.returns
-returns c = record { holds_no_characters = chars-nil }

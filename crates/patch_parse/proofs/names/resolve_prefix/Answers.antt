@@ -1,6 +1,0 @@
-use Rattle.std.proofs.Common.{◌∙◌, ap}
-use Rattle.xml_names.specs.Scopes.{bound}
-use Rattle.patch_parse.proofs.names.resolve_prefix.Goals as goal
-
-pub returns : goal.returns
-returns c = record { exact = c.resolve.ensures.resolves_as_bound ∙ ap (bound c.args.scope.now) c.as_str.ensures.same_chars }

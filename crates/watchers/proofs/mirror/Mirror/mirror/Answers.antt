@@ -1,4 +1,0 @@
-use Rattle.watchers.proofs.mirror.Mirror.mirror.Goals as goal
-
-pub returns-clause-holds_after : goal.returns-clause-holds_after
-returns-clause-holds_after c = rw (c.change.ensures.exact, c.next.ensures.tag_after) at c.hold_after.ensures.holds_after

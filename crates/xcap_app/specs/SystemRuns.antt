@@ -1,0 +1,117 @@
+-- What a run of the program that ends with 0 did, over sockets and streams without any traffic
+-- before. The machine follows RFC 4825; the program is the project's own.
+use Rattle.std.specs.Prelude.{◌≡◌, ℕ, List, codes, length, Option, None, Some}
+use Rattle.edit_ops.specs.declared.edit.Edit.{Edit}
+use Rattle.store_core.specs.State.{State, first_state}
+use Rattle.http_wire.specs.declared.request.Request.{Request}
+use Rattle.edit_journal.specs.JournalTexts.{IsTorn, HasCompleteRecords, journal_text}
+use Rattle.edit_journal.specs.LoggedMachines.{LoggedStep}
+use Rattle.xcap_server.specs.ReplayedRequests.{AcceptsRequests}
+use Rattle.http_wire.specs.ServedConnections.{ServesConnection, ServesAll, machine_on_stream}
+use Rattle.http_wire.specs.declared.close_reason.CloseReason.TheVariants.{Closed}
+use Rattle.http_serve.specs.FixedReplies.{fixed_reply}
+use Rattle.xcap_machine.specs.Machine.{ValidStep}
+use Rattle.http_serve.specs.ReplyBytes.{StepsInBytes}
+use Rattle.xcap_io.specs.Connections.{port_traffic}
+use Rattle.doc_names.specs.declared.doc_id.DocId.{DocId}
+use Rattle.client_commands.specs.CommandEnds.{CallStreams, MakesOneCall, delete_call, fetch_call}
+use Rattle.client_commands.specs.FollowCommand.{FollowsDocument}
+use Rattle.client_commands.specs.PutCommand.{PutsFromInput}
+use Rattle.client_commands.specs.declared.command_end.CommandEnd.TheVariants as ends
+use Rattle.xcap_app.specs.ClientCommands.{FollowArguments, NamesDocument, follow_options}
+use Rattle.xcap_app.specs.RunStates.{RunState, call_part, put_part}
+use Rattle.xcap_app.specs.ServeCommand.{served_line}
+use Rattle.xcap_app.specs.TextVerdicts.{IsTextVerdict}
+use Rattle.xcap_app.specs.SampleCommand.{MakesSample, summary_text}
+use Rattle.xcap_app.specs.declared.sample_summary.Summary.{Summary}
+use Rattle.xcap_app.specs.declared.command.Command.{Command}
+use Rattle.xcap_app.specs.declared.command.Command.TheVariants.{Replay, Serve, Keep, Check, Sample}
+use Rattle.xcap_app.specs.declared.command.Command.TheVariants.{Fetch, Put, Delete, Follow}
+use Rattle.xcap_app.specs.declared.exit.Exit.TheVariants.{Done}
+
+-- the text means a document, which was followed to the end
+pub record FollowsNamedDocument (arguments : FollowArguments) (old new : CallStreams) : Type 0 where
+  pub doc : DocId
+  pub meant : NamesDocument arguments (Some doc)
+  pub follows : FollowsDocument (follow_options arguments doc) ends.Done old new
+
+-- W is the type of the watchers, and `Keeps` relates them before and after such changes.
+module _ {W : Type 0} (Keeps : List Edit → W → W → Type 0) where
+  -- On all connections of the port the machine of this root answered, from the state without
+  -- documents whose next number is 1 on, through valid states, and kept subscribers up to date:
+  -- the bytes taken on each connection are its replies to the items of the bytes given on it. The
+  -- watchers were notified of exactly the changes that it made, in order.
+  pub record AnswersAllConnections (root : List ℕ) (old new : RunState W) : Type 0 where
+    pub state : State
+    pub edits : List Edit
+    pub serves : ServesAll (StepsInBytes (ValidStep root)) fixed_reply
+        (machine_on_stream (first_state 1) old.port) (machine_on_stream state new.port)
+        (port_traffic new.port)
+        edits
+    pub told : Keeps edits old.watchers new.watchers
+
+  -- The machine answered likewise on the one connection of the input and the output, which was
+  -- closed.
+  pub record AnswersInput (root : List ℕ) (old new : RunState W) : Type 0 where
+    pub state : State
+    pub edits : List Edit
+    pub serves : ServesConnection (StepsInBytes (ValidStep root)) fixed_reply Closed (first_state 1)
+        (record {
+          given = new.input.inward.given;
+          ended = new.input.inward.ended;
+          taken = new.output.taken;
+        })
+        state edits
+    pub told : Keeps edits old.watchers new.watchers
+
+  -- The bytes that came in over the input are the records of some requests, and a torn rest, in
+  -- which no record is whole; from the state that the requests lead to, the machine answered on
+  -- all `count` connections of the port, and accepted further requests. The output took the
+  -- records of all.
+  pub record AnswersAfterJournal (root : List ℕ) (count : ℕ) (old new : RunState W) : Type 0 where
+    pub requests : List Request
+    pub rest : List ℕ
+    pub state : State
+    pub accepted : List Request
+    pub next : State
+    pub edits : List Edit
+    pub read : HasCompleteRecords new.input.inward.given requests rest
+    pub torn : IsTorn rest
+    pub redone : AcceptsRequests root (first_state 1) requests state
+    pub serves : ServesAll (StepsInBytes (LoggedStep (ValidStep root))) fixed_reply
+        (machine_on_stream (record { machine = state; requests = requests; failures = 0 }) old.port)
+        (machine_on_stream (record { machine = next; requests = accepted; failures = 0 }) new.port)
+        (port_traffic new.port) edits
+    pub counted : length (port_traffic new.port) ≡ count
+    pub all_redone : AcceptsRequests root (first_state 1) accepted next
+    pub took : new.output.taken ≡ journal_text accepted
+    pub told : Keeps edits old.watchers new.watchers
+
+  -- what was done, by the command that the words spell
+  abbrev pub DoesCommand : Option Command → RunState W → RunState W → Type 0
+  DoesCommand None old new = ⊥
+  DoesCommand (Some (Replay root)) old new = AnswersInput root old new
+  DoesCommand (Some (Serve address root count)) old new =
+      AnswersAllConnections root old new × (length (port_traffic new.port) ≡ count)
+      × (new.output.taken ≡ served_line count)
+  DoesCommand (Some (Keep address root count)) old new = AnswersAfterJournal root count old new
+  DoesCommand (Some (Check usage)) old new =
+      IsTextVerdict usage new.input.inward.given Done × (new.output.taken ≡ codes "valid\n")
+      × (new.watchers ≡ old.watchers)
+  DoesCommand (Some (Sample requests)) old new =
+      (summary : Summary) × MakesSample requests summary × (new.output.taken ≡ summary_text summary)
+      × (new.watchers ≡ old.watchers)
+  DoesCommand (Some (Fetch requester path)) old new =
+      MakesOneCall (fetch_call requester path) ends.Done (call_part old) (call_part new)
+      × (new.watchers ≡ old.watchers)
+  DoesCommand (Some (Put requester path media)) old new =
+      PutsFromInput (record { requester = requester; path = path; media = media }) ends.Done
+      (put_part old) (put_part new)
+      × (new.watchers ≡ old.watchers)
+  DoesCommand (Some (Delete requester path)) old new =
+      MakesOneCall (delete_call requester path) ends.Done (call_part old) (call_part new)
+      × (new.watchers ≡ old.watchers)
+  DoesCommand (Some (Follow requester document rounds)) old new =
+      FollowsNamedDocument (record { requester = requester; document = document; rounds = rounds })
+      (call_part old) (call_part new)
+      × (new.watchers ≡ old.watchers)

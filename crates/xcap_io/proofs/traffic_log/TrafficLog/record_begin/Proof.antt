@@ -1,0 +1,102 @@
+-- Nothing is done at run time: the borrowed log is opened, and closed again with a connection
+-- after the earlier ones.
+use Rattle.std.proofs.Common.{ℕ, List, [], ◌∷◌, refl, MutBor}
+use seplogic.Ra.Ura.{Ura}
+use mir.Syntax.{named}
+use mir.Val.{Val, vunit, vptr}
+use base.Logic.{SProp, ent, sep, emp, via, fst∗, id⊢}
+use base.Fml.{GName, Lft, Share, ftrue, flft, fobs, fbor}
+use prog.Memory.{Memory}
+use prog.Routine.{Routine}
+use prog.Wp.{Calls, Loops, WpFn, Tables}
+use types.Logic.{Logic}
+use contract.Monad.{Fun}
+use contract.Running.{tables, tables_of}
+use types.Kit.{‵, ◌⊛◌, ◌$◌, ◌∵◌, !, qed, by, move, keep, drop, use1, split, fsplit, fsplit3, fjoin, fjoin3, feq_i, suffices, frame, done}
+use types.Run.{unit_lit, of_opd, returns, enter}
+use types.SemTy.{Body}
+use types.ByLocal.{alloc_all, pass_all, free_all, look_at, sets}
+use sound.WpLaws.{WpFn-mono}
+use denote.RattleType.{owns}
+use denote.Memory.{mem}
+use denote.Ref.{MutRef, mut_vals, mut_Tells}
+use denote.Signature.{plain}
+use denote.Steps.{nothing, opens, closes}
+use denote.Triple.Entry.{on_entry}
+use denote.Triple.Spec.{Meets, triple_of}
+use denote.Triple.Table.{entered}
+use denote.Triple.Walked.{says, Stays, stay_ref, walk_of, AllGo, Goes-ref, Walks, ends_at, walked, walk_Meets}
+use Rattle.xcap_io.specs.ConnectionHistories.{with_next_connection}
+use Rattle.xcap_io.specs.declared.traffic_log.TrafficLog.{TrafficLog}
+use Rattle.xcap_io.specs.contracts.traffic_log.TrafficLog as Kept
+use Rattle.xcap_io.specs.contracts.traffic_log.TrafficLog.record_begin as it
+use Rattle.xcap_io.specs.contracts.traffic_log.TrafficLog.record_begin.Key.{name as key}
+use Rattle.xcap_io.proofs.traffic_log.TrafficLog.record_begin.Statement as stated
+use Rattle.xcap_io.proofs.traffic_log.TrafficLog.record_begin.Code as code
+
+-- the argument: the log, borrowed to be changed
+abbrev Given : Type 0
+Given = MutBor TrafficLog × Unit {0}
+
+abbrev it_stays : Stays (it.ended).signature.params (it.ended).kept
+it_stays = (stay_ref (0 ∷ []) tt (plain (λ _. Kept.the_row)), tt)
+
+module _ {M : Type 1} {𝓤 : Ura M} (𝓛 : Logic 𝓤) (at_mem : Memory → SProp 𝓤) (run : Routine → Fun 𝓤) (κ : Lft) (q : Share) (b o : ℕ) (γ : GName) (before : TrafficLog) where
+  open 𝓛 use {H, A}
+
+  abbrev given : Given
+  given = (record { ref_ptr = (b, o); ghost_name = γ; now = before }, tt)
+
+  abbrev after : TrafficLog
+  after = record { history = with_next_connection before.history }
+
+  abbrev at : List Val × Unit {0}
+  at = (vptr b o ∷ [], tt)
+
+  abbrev Post : Val → SProp 𝓤
+  Post = (walk_of 𝓛 it.ended it_stays (it.clauses 𝓛 at_mem run)).post (((κ, tt), (q, tt), tt, given, at), tt)
+
+  -- the state at the end of the body is the one that the contract states
+  exits : ent 𝓤 (sep 𝓤 (A.obs γ ((Kept.the_row).coded.code after)) (sep 𝓤 (A.bor κ (Body (mem Kept.the_row) b o γ)) (sep 𝓤 (A.lft κ q) (emp 𝓤)))) (Post vunit)
+  exits =
+      qed 𝓛 (‵ (fobs γ ((Kept.the_row).coded.code after)) ∷ ‵ (fbor κ (Body (mem Kept.the_row) b o γ)) ∷ (‵ (flft κ q) ⊛ ‵ ftrue) ∷ []) ∵
+      suffices ! _ (ends_at 𝓛 it.ended it_stays (it.clauses 𝓛 at_mem run) (((κ, tt), (q, tt), tt, given, at), tt) vunit tt (after, tt) (tt, tt)) $ says ! refl $ move ! (2 ∷ []) $
+      frame ! $ feq_i ! (List Val) (vptr b o ∷ []) (vptr b o ∷ []) refl $ fjoin3 ! $ nothing ! $ move ! (1 ∷ 0 ∷ []) $ fjoin ! $
+      feq_i ! (List Val) (vunit ∷ []) (vunit ∷ []) refl $ move ! (1 ∷ 0 ∷ []) $ done !
+
+  module _ (C : Calls 𝓤 H) (Λ : Loops 𝓤 H) where
+    -- the body, from its entry to its return
+    body : ent 𝓤 (on_entry 𝓛 it.signature (κ, tt) (q, tt) given at) (WpFn 𝓤 H C Λ code.function (vptr b o ∷ []) Post)
+    body =
+        qed 𝓛 ((‵ (flft κ q) ⊛ ‵ ftrue) ∷ ‵ (owns (MutRef (named 0) κ Kept.the_row ∷ []) given at) ∷ []) ∵ split ! $ move ! (2 ∷ []) $ fsplit ! $ fsplit3 ! $ drop ! $ move ! (0 ∷ 1 ∷ 3 ∷ []) $
+        enter ! C Λ code.function (vptr b o ∷ []) _ $
+        alloc_all ! (λ l. pass_all ! refl ((tt, tt), tt) $
+        move ! (0 ∷ 1 ∷ 2 ∷ []) $ opens ! tt Kept.the_row {h = before} b o (λ vs.
+        sets ! (of_opd ! (unit_lit !)) refl (tt, tt) $
+        move ! (1 ∷ []) $ use1 𝓛 (‵ ((Kept.the_row).own_val after vs)) (id⊢ 𝓤 _) $ move ! (1 ∷ 0 ∷ []) $ closes ! tt Kept.the_row after vs b o $
+        returns ! (look_at ! 0 refl) $ free_all ! refl $
+        keep ! (0 ∷ 1 ∷ 2 ∷ 3 ∷ []) $ by ! exits))
+
+module _ {M : Type 1} {𝓤 : Ura M} (𝓛 : Logic 𝓤) (at_mem : Memory → SProp 𝓤) (run : Routine → Fun 𝓤) where
+  open 𝓛 use {H}
+
+  walks : (C : Calls 𝓤 H) (Λ : Loops 𝓤 H) → Walks 𝓛 it.ended it_stays (WpFn 𝓤 H C Λ code.function) (it.clauses 𝓛 at_mem run)
+  walks C Λ =
+      walked 𝓛 it.ended it_stays (it.clauses 𝓛 at_mem run) (WpFn 𝓤 H C Λ code.function) (λ κs. (mut_vals, tt))
+      (λ κs. (mut_Tells (named 0) κs.0 Kept.the_row, tt))
+      (λ κs qs bounds a _ are. via 𝓤 _ (fst∗ 𝓤 _ (emp 𝓤)) (body 𝓛 at_mem run κs.0 qs.0 a.0.ref_ptr.0 a.0.ref_ptr.1 a.0.ghost_name a.0.now C Λ))
+
+  goes : AllGo 𝓛 1 (it.signature).params (it.ended).kept it_stays
+  goes = (Goes-ref 𝓛 1 0 tt (plain (λ _. Kept.the_row)), tt)
+
+  meets : (𝓣 : Tables 𝓤 H) → Meets 𝓛 it.signature (WpFn 𝓤 H 𝓣.C 𝓣.Λ code.function) (it.spec 𝓛 at_mem run)
+  meets 𝓣 =
+      walk_Meets 𝓛 it.ended it_stays goes (it.clauses 𝓛 at_mem run) (WpFn 𝓤 H 𝓣.C 𝓣.Λ code.function)
+      (WpFn-mono 𝓤 H 𝓛.laws 𝓣 code.function) (walks 𝓣.C 𝓣.Λ)
+
+pub record_begin_spec : {M : Type 1} → stated.statement M
+unfolding tables_of
+record_begin_spec 𝓤 𝓛 𝓜 𝓡 wired =
+    let 𝓣 : Tables 𝓤 𝓛.H = tables_of 𝓤 𝓛.H 𝓜 (tables 𝓤 𝓛.H 𝓜 𝓡 𝓡.env) in
+    entered 𝓤 𝓛.H (triple_of 𝓛 it.signature (it.spec 𝓛 𝓜.mem 𝓡.returns)) 𝓣.C 𝓣.Λ key code.function
+    (code.unfolded 𝓤 𝓛.H 𝓜 𝓡 wired) (meets 𝓛 𝓜.mem 𝓡.returns 𝓣)

@@ -1,5 +1,0 @@
-use Rattle.xcap_laws.proofs.MetAddresses as addresses
-use Rattle.xcap_laws.proofs.flat_laws.flat_lists_are_sound.Goals as goal
-
-pub returns : goal.returns
-returns x = record { no_repetition = addresses.distinct; stands_in_entry = addresses.met }

@@ -1,9 +1,0 @@
-use Rattle.std.proofs.Common.{◌≡◌, length}
-use Rattle.xcap_uri.specs.Escapes.{has_whole_escapes}
-use Rattle.xcap_uri.proofs.escapes.has_whole_escapes.Given as goal
-
-abbrev pub invariant-loop-rest : goal.invariant-loop-rest
-invariant-loop-rest l = has_whole_escapes l.rest ≡ has_whole_escapes l.part
-
-abbrev pub decreases-loop-rest : goal.decreases-loop-rest
-decreases-loop-rest l = length l.rest

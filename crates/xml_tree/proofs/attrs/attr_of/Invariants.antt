@@ -1,6 +1,0 @@
-use Rattle.std.proofs.Common.{◌≡◌, drop, find}
-use Rattle.xml_names.specs.Attributes.{is_written_so as is_named}
-use Rattle.xml_tree.proofs.attrs.attr_of.Given as goal
-
-abbrev pub invariant-loop-attr : goal.invariant-loop-attr
-invariant-loop-attr l = find (is_named l.name) (drop l.attr-index l.attrs) ≡ find (is_named l.name) l.attrs
