@@ -19,7 +19,7 @@ follower_of document (Ok held) =
     })
 follower_of document (Err fault) = Err fault
 
--- The document was fetched, and the follower is that of the fetched version.
+-- The document was fetched, and the follower holds the fetched version.
 pub record StartsFollower (document : FollowedDocument) (old new : StreamState)
     (result : Result FollowerState FollowerFault) : Type 0 where
   pub fetched : Result (Option ReplicaVersion) FollowerFault

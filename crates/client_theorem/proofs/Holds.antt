@@ -17,7 +17,7 @@ use Rattle.reply_text.specs.ReplyHeads.{SentReply}
 use Rattle.http_wire.specs.declared.request.Request.{Request}
 use Rattle.store_core.specs.DocumentChanges.{find_document, document_id, stored_id}
 use Rattle.store_core.specs.Contents.{Represents, StoreContents, stored_document, contents_of}
-use Rattle.store_core.specs.ValidStates.{IsValidDocument, IsValidState}
+use Rattle.store_core.specs.ValidStates.{IsValidHistory, IsValidState}
 use Rattle.store_core.specs.Since.{Gone, Unknown, since}
 use Rattle.store_core.specs.inner.ChangesSince.{stored_changes_since}
 use Rattle.store_core.specs.State.{Document, State, Version, versions}
@@ -53,7 +53,7 @@ tag_at next (x ∷ vs) (suc k) v h is = tag_at next vs k v h.1 is
 -- where the last number has 64 bits, so has each tag
 small_tag : (m : State) (id : DocId) (d : Document) (from : Version) (last : ℕ) → IsValidState m → last + 1 ≡ m.next → last ≤ u64_max → IsRetainedVersion m id d from → (1 ≤ from.tag) × (from.tag ≤ u64_max)
 small_tag m id d from last kept next small is =
-    let of_document : IsValidDocument m.next d = found_all (IsValidDocument m.next) (λ x. same_id id x.id) m.documents d kept.documents is.there in
+    let of_document : IsValidHistory m.next d = found_all (IsValidHistory m.next) (λ x. same_id id x.id) m.documents d kept.documents is.there in
     let tag = tag_at m.next (versions d) is.number from of_document.tags is.is_version in
     (tag.0, omega (arith, tag.1, next, small))
 

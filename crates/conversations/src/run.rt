@@ -99,7 +99,7 @@ fn all_outputs_match(
 fn streams_match(rt: &HostRuntime, name: &str, lines: &Lines, told: &SharedStream) -> Result<bool> {
     let mut alike = matches_file(rt, name, "out", lines.output.sent())?;
     alike &= matches_file(rt, name, "errors", lines.errors.sent())?;
-    let told = told.sent(rt.alloc())?;
+    let told = told.output(rt.alloc())?;
     Ok(matches_file(rt, name, "audit", &told)? && alike)
 }
 

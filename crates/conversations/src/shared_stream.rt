@@ -21,7 +21,7 @@ impl SharedStream {
     }
 
     /// The bytes that the stream took.
-    pub fn sent(&self, alloc: Global) -> Result<Vec<u8>, AllocError> {
+    pub fn output(&self, alloc: Global) -> Result<Vec<u8>, AllocError> {
         match self.0.try_borrow() {
             Ok(line) => line.sent().to_vec(alloc),
             Err(_) => Err(AllocError),

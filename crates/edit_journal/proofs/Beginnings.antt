@@ -24,10 +24,10 @@ nothing_before (x ∷ xs) ys e = absurd (omega (arith, ap length e))
 -- a text that begins with the records of some requests is the text of these and others
 pub begin_alike : (requests all : List Request) (bytes : List ℕ) → All IsRecordedRequest requests → All IsRecordedRequest all → journal_text all ≡ journal_text requests ++ bytes
     → (left : List Request) × (all ≡ requests ++ left) × (journal_text left ≡ bytes) × All IsRecordedRequest left
-begin_alike [] all bytes told told' e = (all, refl, e, told')
-begin_alike (a ∷ xs) [] bytes told told' e =
+begin_alike [] all bytes recorded recorded' e = (all, refl, e, recorded')
+begin_alike (a ∷ xs) [] bytes recorded recorded' e =
     absurd (omega (arith, ap length e, length-append (journal_text (a ∷ xs)) bytes, length-append (record_of a) (journal_text xs), record_length a))
-begin_alike (a ∷ xs) (b ∷ ys) bytes told told' e =
-    let one = one_record b a (journal_text ys) (journal_text xs ++ bytes) (All-head IsRecordedRequest b ys told') (All-head IsRecordedRequest a xs told) (e ∙ append_assoc (record_of a) (journal_text xs) bytes) in
-    let more = begin_alike xs ys bytes (All-tail IsRecordedRequest a xs told) (All-tail IsRecordedRequest b ys told') one.1 in
+begin_alike (a ∷ xs) (b ∷ ys) bytes recorded recorded' e =
+    let one = one_record b a (journal_text ys) (journal_text xs ++ bytes) (All-head IsRecordedRequest b ys recorded') (All-head IsRecordedRequest a xs recorded) (e ∙ append_assoc (record_of a) (journal_text xs) bytes) in
+    let more = begin_alike xs ys bytes (All-tail IsRecordedRequest a xs recorded) (All-tail IsRecordedRequest b ys recorded') one.1 in
     (more.0, (λ i. one.0 i ∷ more.1 i), more.2, more.3)

@@ -48,46 +48,46 @@ one_fields (f ∷ fs) (g ∷ gs) x y same a b e =
     ((λ i. record { name = first.0 i; value = next.0 i } ∷ rest.0 i), rest.1)
 
 one_content : (a b : Request) → IsRecordedRequest a → IsRecordedRequest b → record_content a ≡ record_content b → a ≡ b
-one_content a b told told' e =
+one_content a b recorded recorded' e =
     let size = content_length a in
     let size' = content_length b in
     let number : method_number a.method ≡ method_number b.method = cc in
     let behind : length_prefixed a.target ++ (to_be_bytes w16 (length a.fields) ++ (flat_map field_text a.fields ++ length_prefixed a.body)) ≡ length_prefixed b.target ++ (to_be_bytes w16 (length b.fields) ++ (flat_map field_text b.fields ++ length_prefixed b.body)) = cc in
     let target = one_block a.target b.target (to_be_bytes w16 (length a.fields) ++ (flat_map field_text a.fields ++ length_prefixed a.body)) (to_be_bytes w16 (length b.fields) ++ (flat_map field_text b.fields ++ length_prefixed b.body))
-    (omega (arith, told.0.short)) (omega (arith, told'.0.short)) behind in
-    let count : length a.fields ≡ length b.fields = one_short (length a.fields) (length b.fields) (omega (arith, told.0.few)) (omega (arith, told'.0.few))
+    (omega (arith, recorded.0.short)) (omega (arith, recorded'.0.short)) behind in
+    let count : length a.fields ≡ length b.fields = one_short (length a.fields) (length b.fields) (omega (arith, recorded.0.few)) (omega (arith, recorded'.0.few))
     (first_part (to_be_bytes w16 (length b.fields)) (flat_map field_text b.fields ++ length_prefixed b.body) (to_be_bytes w16 (length a.fields)) (flat_map field_text a.fields ++ length_prefixed a.body) refl target.1) in
     let rest = second_part (to_be_bytes w16 (length b.fields)) (flat_map field_text b.fields ++ length_prefixed b.body) (to_be_bytes w16 (length a.fields)) (flat_map field_text a.fields ++ length_prefixed a.body) refl target.1 in
-    let fields = one_fields a.fields b.fields (length_prefixed a.body) (length_prefixed b.body) count (omega (arith, told.0.short)) (omega (arith, told'.0.short)) rest in
-    let body = one_block a.body b.body [] [] (omega (arith, told.0.body)) (omega (arith, told'.0.body)) (ap (λ l. l ++ []) fields.1) in
-    λ i. record { method = one_method a.method b.method told.0.method number i; target = target.0 i; closes = (told.1 ∙ sym told'.1) i; fields = fields.0 i; body = body.0 i }
+    let fields = one_fields a.fields b.fields (length_prefixed a.body) (length_prefixed b.body) count (omega (arith, recorded.0.short)) (omega (arith, recorded'.0.short)) rest in
+    let body = one_block a.body b.body [] [] (omega (arith, recorded.0.body)) (omega (arith, recorded'.0.body)) (ap (λ l. l ++ []) fields.1) in
+    λ i. record { method = one_method a.method b.method recorded.0.method number i; target = target.0 i; closes = (recorded.1 ∙ sym recorded'.1) i; fields = fields.0 i; body = body.0 i }
 
 -- the bytes of a record determine the request
 pub one_record : (a b : Request) (x y : List ℕ) → IsRecordedRequest a → IsRecordedRequest b → record_of a ++ x ≡ record_of b ++ y → (a ≡ b) × (x ≡ y)
-one_record a b x y told told' e =
-    let same = one_block (record_content a) (record_content b) x y (omega (arith, told.0.short)) (omega (arith, told'.0.short)) e in
-    (one_content a b told told' same.0, same.1)
+one_record a b x y recorded recorded' e =
+    let same = one_block (record_content a) (record_content b) x y (omega (arith, recorded.0.short)) (omega (arith, recorded'.0.short)) e in
+    (one_content a b recorded recorded' same.0, same.1)
 
 one_list : (bytes : List ℕ) (requests requests' : List Request) (rest rest' : List ℕ) → All IsRecordedRequest requests → All IsRecordedRequest requests' → HasNoRecord rest → HasNoRecord rest'
     → bytes ≡ journal_text requests ++ rest → bytes ≡ journal_text requests' ++ rest' → (requests ≡ requests') × (rest ≡ rest')
-one_list bytes [] [] rest rest' told told' none none' e e' = (refl, sym e ∙ e')
-one_list bytes [] (b ∷ ys) rest rest' told told' none none' e e' =
-    absurd (none b (journal_text ys ++ rest') (All-head IsRecordedRequest b ys told', sym e ∙ e' ∙ append_assoc (record_of b) (journal_text ys) rest'))
-one_list bytes (a ∷ xs) [] rest rest' told told' none none' e e' =
-    absurd (none' a (journal_text xs ++ rest) (All-head IsRecordedRequest a xs told, sym e' ∙ e ∙ append_assoc (record_of a) (journal_text xs) rest))
-one_list bytes (a ∷ xs) (b ∷ ys) rest rest' told told' none none' e e' =
-    let one = one_record a b (journal_text xs ++ rest) (journal_text ys ++ rest') (All-head IsRecordedRequest a xs told) (All-head IsRecordedRequest b ys told') (sym (append_assoc (record_of a) (journal_text xs) rest) ∙ sym e ∙ e' ∙ append_assoc (record_of b) (journal_text ys) rest') in
-    let more = one_list (journal_text xs ++ rest) xs ys rest rest' (All-tail IsRecordedRequest a xs told) (All-tail IsRecordedRequest b ys told') none none' refl one.1 in
+one_list bytes [] [] rest rest' recorded recorded' none none' e e' = (refl, sym e ∙ e')
+one_list bytes [] (b ∷ ys) rest rest' recorded recorded' none none' e e' =
+    absurd (none b (journal_text ys ++ rest') (All-head IsRecordedRequest b ys recorded', sym e ∙ e' ∙ append_assoc (record_of b) (journal_text ys) rest'))
+one_list bytes (a ∷ xs) [] rest rest' recorded recorded' none none' e e' =
+    absurd (none' a (journal_text xs ++ rest) (All-head IsRecordedRequest a xs recorded, sym e' ∙ e ∙ append_assoc (record_of a) (journal_text xs) rest))
+one_list bytes (a ∷ xs) (b ∷ ys) rest rest' recorded recorded' none none' e e' =
+    let one = one_record a b (journal_text xs ++ rest) (journal_text ys ++ rest') (All-head IsRecordedRequest a xs recorded) (All-head IsRecordedRequest b ys recorded') (sym (append_assoc (record_of a) (journal_text xs) rest) ∙ sym e ∙ e' ∙ append_assoc (record_of b) (journal_text ys) rest') in
+    let more = one_list (journal_text xs ++ rest) xs ys rest rest' (All-tail IsRecordedRequest a xs recorded) (All-tail IsRecordedRequest b ys recorded') none none' refl one.1 in
     ((λ i. one.0 i ∷ more.0 i), more.1)
 
 pub one_whole : RecordsAreUnique
 one_whole bytes requests requests' rest rest' whole whole' =
-    one_list bytes requests requests' rest rest' whole.told whole'.told whole.no_more whole'.no_more whole.split whole'.split
+    one_list bytes requests requests' rest rest' whole.recorded whole'.recorded whole.no_more whole'.no_more whole.split whole'.split
 
 -- no record is complete in fewer bytes than its own
 pub no_record_in : (bytes more : List ℕ) (request : Request) → IsRecordedRequest request → record_of request ≡ bytes ++ more → length bytes < length (record_of request) → HasNoRecord bytes
-no_record_in bytes more request told e short = λ other rest begins.
-    let one = one_record request other [] (rest ++ more) told begins.0 (append-nil (record_of request) ∙ e ∙ ap (λ l. l ++ more) begins.1 ∙ append_assoc (record_of other) rest more) in
+no_record_in bytes more request recorded e short = λ other rest begins.
+    let one = one_record request other [] (rest ++ more) recorded begins.0 (append-nil (record_of request) ∙ e ∙ ap (λ l. l ++ more) begins.1 ∙ append_assoc (record_of other) rest more) in
     omega (arith, ap length e, length-append bytes more, ap length one.1, length-append rest more)
 
 -- a request that has a record
@@ -116,7 +116,7 @@ nothing_in = λ request rest begins. omega (arith, ap length begins.1, length-ap
 
 first_here : (request : Request) (requests : List Request) (bytes more : List ℕ) → All IsRecordedRequest (request ∷ requests) → record_of request ++ journal_text requests ≡ bytes ++ more → length bytes < length (record_of request)
     → (more' : List ℕ) × (record_of request ≡ bytes ++ more')
-first_here request requests bytes more told e short =
+first_here request requests bytes more recorded e short =
     let parts : bytes ++ more ≡ take (length bytes) (record_of request) ++ (drop (length bytes) (record_of request) ++ journal_text requests) =
     sym e ∙ ap (λ l. l ++ journal_text requests) (sym (take-append-drop (length bytes) (record_of request))) ∙ append_assoc (take (length bytes) (record_of request)) (drop (length bytes) (record_of request)) (journal_text requests) in
     let front : bytes ≡ take (length bytes) (record_of request) = first_part (take (length bytes) (record_of request)) (drop (length bytes) (record_of request) ++ journal_text requests) bytes more
@@ -142,24 +142,24 @@ nothing_before (b ∷ bytes) more e = absurd (omega (arith, ap length e))
 -- rest
 pub first_ones : (requests : List Request) (bytes : List ℕ) → All IsRecordedRequest requests → IsPrefixOf bytes (journal_text requests)
     → (first more : List Request) × (rest : List ℕ) × (requests ≡ first ++ more) × HasCompleteRecords bytes first rest × IsTorn rest
-first_ones [] bytes told (more, e) =
+first_ones [] bytes recorded (more, e) =
     let none : bytes ≡ [] = nothing_before bytes more e in
-    ([], [], [], refl, record { told = All-nil IsRecordedRequest; split = none; no_more = nothing_in }, nothing_torn)
-first_ones (request ∷ requests) bytes told (more, e) = elim (cases_lt (length bytes) (length (record_of request))) [
+    ([], [], [], refl, record { recorded = All-nil IsRecordedRequest; split = none; no_more = nothing_in }, nothing_torn)
+first_ones (request ∷ requests) bytes recorded (more, e) = elim (cases_lt (length bytes) (length (record_of request))) [
   | inl short ↦
-      let here = first_here request requests bytes more told e short in
-      let one = All-head IsRecordedRequest request requests told in
-      ([], request ∷ requests, bytes, refl, record { told = All-nil IsRecordedRequest; split = refl; no_more = no_record_in bytes here.0 request one here.1 short }, (request, one, short, (here.0, here.1)))
+      let here = first_here request requests bytes more recorded e short in
+      let one = All-head IsRecordedRequest request requests recorded in
+      ([], request ∷ requests, bytes, refl, record { recorded = All-nil IsRecordedRequest; split = refl; no_more = no_record_in bytes here.0 request one here.1 short }, (request, one, short, (here.0, here.1)))
   | inr long ↦
       let parts = behind_it (record_of request) bytes (journal_text requests) more long e in
-      let one = All-head IsRecordedRequest request requests told in
-      let rest = first_ones requests parts.0 (All-tail IsRecordedRequest request requests told) (more, parts.2) in (
+      let one = All-head IsRecordedRequest request requests recorded in
+      let rest = first_ones requests parts.0 (All-tail IsRecordedRequest request requests recorded) (more, parts.2) in (
         request ∷ rest.0,
         rest.1,
         rest.2,
         ap (λ l. request ∷ l) rest.3,
         record {
-          told = All-cons IsRecordedRequest request rest.0 one rest.4.told;
+          recorded = All-cons IsRecordedRequest request rest.0 one rest.4.recorded;
           split = parts.1 ∙ ap (λ l. record_of request ++ l) rest.4.split ∙ sym (append_assoc (record_of request) (journal_text rest.0) rest.2);
           no_more = rest.4.no_more;
         },

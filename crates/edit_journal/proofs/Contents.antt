@@ -97,15 +97,15 @@ content_no_rest seen seen' bytes front tail method front' tail' target len Open 
     let joined : bytes ++ more ≡ front ++ (length_prefixed target ++ (tail' ++ more)) =
     ap (λ l. l ++ more) split ∙ append_assoc front tail more ∙ ap (λ l. front ++ (l ++ more)) split' ∙ ap (λ l. front ++ l) (append_assoc front' tail' more) ∙ ap (λ l. front ++ (l ++ (tail' ++ more))) is.0 in
     (more, request_with method target value, longer, content_of len (bytes ++ more) front target (tail' ++ more) method value fits (omega (arith, is.2)) named joined rest)
-content_no_rest seen seen' bytes front tail method front' tail' target len Wrong some fits split named split' is wrong = λ all request more behind told e.
+content_no_rest seen seen' bytes front tail method front' tail' target len Wrong some fits split named split' is wrong = λ all request more behind recorded e.
     let after = to_be_bytes w16 (length request.fields) ++ (flat_map field_text request.fields ++ length_prefixed request.body) in
     let joined : front ++ (tail ++ more) ≡ (method_number request.method ∷ []) ++ ((length_prefixed request.target ++ after) ++ behind) =
-    sym (append_assoc front tail more) ∙ ap (λ l. l ++ more) (sym split) ∙ e ∙ ap (λ l. l ++ behind) told.1 in
+    sym (append_assoc front tail more) ∙ ap (λ l. l ++ more) (sym split) ∙ e ∙ ap (λ l. l ++ behind) recorded.1 in
     let next : tail ++ more ≡ (length_prefixed request.target ++ after) ++ behind = second_part (method_number request.method ∷ []) ((length_prefixed request.target ++ after) ++ behind) front (tail ++ more) (omega (arith, ap length named.0)) joined in
     let both : length_prefixed target ++ (tail' ++ more) ≡ length_prefixed request.target ++ (after ++ behind) =
     ap (λ l. l ++ (tail' ++ more)) (sym is.0) ∙ sym (append_assoc front' tail' more) ∙ ap (λ l. l ++ more) (sym split') ∙ next ∙ append_assoc (length_prefixed request.target) after behind in
-    let one = one_block target request.target (tail' ++ more) (after ++ behind) (omega (arith, is.2)) (omega (arith, content_length request, ap length told.1, told.2)) both in
-    wrong after (request.fields, request.body) more behind (subst (λ (l : List ℕ). IsRestOfContent (len - (5 + length l)) after (request.fields, request.body)) (sym one.0) (rest_of_content len all request told)) one.1
+    let one = one_block target request.target (tail' ++ more) (after ++ behind) (omega (arith, is.2)) (omega (arith, content_length request, ap length recorded.1, recorded.2)) both in
+    wrong after (request.fields, request.body) more behind (subst (λ (l : List ℕ). IsRestOfContent (len - (5 + length l)) after (request.fields, request.body)) (sym one.0) (rest_of_content len all request recorded)) one.1
 content_no_rest seen seen' bytes front tail method front' tail' target len NoMemory some fits split named split' is none = tt
 
 pub content_whole : (bytes front tail method front' tail' target front'' tail'' : List ℕ) (value : List Field × List ℕ) (len : ℕ) → 11 ≤ len → len ≤ 300000 → bytes ≡ front ++ tail → IsMethodByte front method
@@ -129,8 +129,8 @@ content_there len some fits =
     )
 
 record_with : (bytes front tail : List ℕ) (len : ℕ) (request : Request) → bytes ≡ front ++ tail → front ≡ to_be_bytes w32 len → IsRecordContent len tail request → IsRecordOf bytes request
-record_with bytes front tail len request split is told =
-    (told.0, split ∙ ap (λ l. l ++ tail) is ∙ ap (λ n. to_be_bytes w32 n ++ tail) (sym told.2) ∙ sym (block_is tail) ∙ ap length_prefixed told.1)
+record_with bytes front tail len request split is recorded =
+    (recorded.0, split ∙ ap (λ l. l ++ tail) is ∙ ap (λ n. to_be_bytes w32 n ++ tail) (sym recorded.2) ∙ sym (block_is tail) ∙ ap length_prefixed recorded.1)
 
 pub record_no_number : {B : Type 0} (seen : B → Request) (bytes : List ℕ) (stop : FieldError) → ReadsPart (λ n. n) (IsU32Between 11 300000) bytes (Err stop) → ReadsPart seen IsRecordOf bytes (Err stop)
 record_no_number seen bytes Open (more, len, longer, (is, low, high)) =
@@ -142,17 +142,17 @@ record_no_number seen bytes Wrong wrong = λ all request more behind is e.
 record_no_number seen bytes NoMemory none = tt
 
 pub record_on : (bytes front tail : List ℕ) (len : ℕ) (result : Result Request FieldError) → bytes ≡ front ++ tail → IsU32Between 11 300000 front len → ReadsPart (λ (r : Request). r) (IsRecordContent len) tail result → ReadsPart (λ (r : Request). r) IsRecordOf bytes result
-record_on bytes front tail len (Ok request) split is (front', tail', split', told) =
-    (front ++ front', tail', split ∙ ap (λ l. front ++ l) split' ∙ sym (append_assoc front front' tail'), record_with (front ++ front') front front' len request refl is.0 told)
-record_on bytes front tail len (Err Open) split is (more, request, longer, told) =
-    (more, request, longer, record_with (bytes ++ more) front (tail ++ more) len request (ap (λ l. l ++ more) split ∙ append_assoc front tail more) is.0 told)
-record_on bytes front tail len (Err Wrong) split is wrong = λ all request more behind told e.
+record_on bytes front tail len (Ok request) split is (front', tail', split', recorded) =
+    (front ++ front', tail', split ∙ ap (λ l. front ++ l) split' ∙ sym (append_assoc front front' tail'), record_with (front ++ front') front front' len request refl is.0 recorded)
+record_on bytes front tail len (Err Open) split is (more, request, longer, recorded) =
+    (more, request, longer, record_with (bytes ++ more) front (tail ++ more) len request (ap (λ l. l ++ more) split ∙ append_assoc front tail more) is.0 recorded)
+record_on bytes front tail len (Err Wrong) split is wrong = λ all request more behind recorded e.
     let size = length (record_content request) in
     let joined : front ++ (tail ++ more) ≡ to_be_bytes w32 size ++ (record_content request ++ behind) =
-    sym (append_assoc front tail more) ∙ ap (λ l. l ++ more) (sym split) ∙ e ∙ ap (λ l. l ++ behind) (told.1 ∙ block_is (record_content request)) ∙ append_assoc (to_be_bytes w32 size) (record_content request) behind in
+    sym (append_assoc front tail more) ∙ ap (λ l. l ++ more) (sym split) ∙ e ∙ ap (λ l. l ++ behind) (recorded.1 ∙ block_is (record_content request)) ∙ append_assoc (to_be_bytes w32 size) (record_content request) behind in
     let four : length front ≡ 4 = ap length is.0 in
-    let number : len ≡ size = one_number len size (omega (arith, is.2)) (omega (arith, told.0.0.short)) (sym is.0 ∙ first_part (to_be_bytes w32 size) (record_content request ++ behind) front (tail ++ more) (omega arith) joined) in
-    wrong (record_content request) request more behind (told.0, refl, sym number) (second_part (to_be_bytes w32 size) (record_content request ++ behind) front (tail ++ more) (omega arith) joined)
+    let number : len ≡ size = one_number len size (omega (arith, is.2)) (omega (arith, recorded.0.0.short)) (sym is.0 ∙ first_part (to_be_bytes w32 size) (record_content request ++ behind) front (tail ++ more) (omega arith) joined) in
+    wrong (record_content request) request more behind (recorded.0, refl, sym number) (second_part (to_be_bytes w32 size) (record_content request ++ behind) front (tail ++ more) (omega arith) joined)
 record_on bytes front tail len (Err NoMemory) split is none = tt
 
 -- the first of some bytes

@@ -13,21 +13,21 @@ use Rattle.edit_journal.proofs.CompleteRequests.{no_record_in}
 
 -- the length of the record at the front
 record_len_is : (request : Request) (bytes rest : List ℕ) → BeginsWithRecord bytes request rest → 4 + padded_u32 bytes 0 ≡ length (record_of request)
-record_len_is request bytes rest (told, split) =
-    let number : padded_u32 bytes 0 ≡ length (record_content request) = number_there bytes (length (record_content request)) (record_content request ++ rest) (omega (arith, told.0.short))
+record_len_is request bytes rest (recorded, split) =
+    let number : padded_u32 bytes 0 ≡ length (record_content request) = number_there bytes (length (record_content request)) (record_content request ++ rest) (omega (arith, recorded.0.short))
     (split ∙ ap (λ l. l ++ rest) (block_is (record_content request)) ∙ append_assoc (to_be_bytes w32 (length (record_content request))) (record_content request) rest) in
     omega (arith, record_length request)
 
 pub front_whole : (bytes : List ℕ) (request : Request) → ReadsPart (λ (r : Request). r) IsRecordOf bytes (Ok request)
     → (rest : List ℕ) × BeginsWithRecord bytes request rest × (4 + padded_u32 bytes 0 ≡ length (record_of request))
-front_whole bytes request (front, rest, split, (told, is)) =
-    let begins : BeginsWithRecord bytes request rest = (told, split ∙ ap (λ l. l ++ rest) is) in
+front_whole bytes request (front, rest, split, (recorded, is)) =
+    let begins : BeginsWithRecord bytes request rest = (recorded, split ∙ ap (λ l. l ++ rest) is) in
     (rest, begins, record_len_is request bytes rest begins)
 
 pub front_torn : (bytes : List ℕ) → ReadsPart (λ (r : Request). r) IsRecordOf bytes (Err Open) → HasNoRecord bytes × IsTorn bytes
-front_torn bytes (more, request, longer, (told, is)) = (
-  no_record_in bytes more request told (sym is) (omega (arith, ap length is, length-append bytes more)),
-  (request, told, omega (arith, ap length is, length-append bytes more), (more, sym is)),
+front_torn bytes (more, request, longer, (recorded, is)) = (
+  no_record_in bytes more request recorded (sym is) (omega (arith, ap length is, length-append bytes more)),
+  (request, recorded, omega (arith, ap length is, length-append bytes more), (more, sym is)),
 )
 
 pub front_damaged : (bytes : List ℕ) → ReadsPart (λ (r : Request). r) IsRecordOf bytes (Err Wrong) → IsDamaged bytes

@@ -27,7 +27,7 @@ use Rattle.edit_journal.specs.inner.JournaledMachines.{JournaledMachineState, Jo
 as_records : (Accepted : Request → Type 0) (log : LogState) (requests : List Request) (bytes : List ℕ) → HoldsLog Accepted log requests bytes → HoldsRecords log requests bytes
 as_records Accepted log requests bytes h = record {
   rest = h.rest;
-  told = h.told;
+  recorded = h.recorded;
   split = h.split;
   len = h.len;
   behind = by_torn log.is_torn h.behind;
@@ -46,7 +46,7 @@ module _ (Accepted : Request → Type 0) (log : LogState) (requests : List Reque
   holds_added : (Accepted' : Request → Type 0) → new ≡ take log.len old ++ record_of request → HoldsLog Accepted' (log_with_record log (record_of request)) (requests ++ recorded_request request ∷ []) new
   holds_added Accepted' behind = record {
     rest = [];
-    told = All-append IsRecordedRequest requests (recorded_request request ∷ []) holds.told (All-cons IsRecordedRequest (recorded_request request) [] (is_told request can) (All-nil IsRecordedRequest));
+    recorded = All-append IsRecordedRequest requests (recorded_request request ∷ []) holds.recorded (All-cons IsRecordedRequest (recorded_request request) [] (is_told request can) (All-nil IsRecordedRequest));
     split = behind ∙ ap (λ l. l ++ record_of request) (whole_first log requests old records) ∙ sym (text_one_more requests request) ∙ sym (append-nil (journal_text (requests ++ recorded_request request ∷ [])));
     len = ap length (text_one_more requests request) ∙ length-append (journal_text requests) (record_of request) ∙ ap (λ n. n + length (record_of request)) holds.len;
     behind = refl;
@@ -68,7 +68,7 @@ module _ (Accepted : Request → Type 0) (log : LogState) (requests : List Reque
   unfolding as_records
   holds_kept accepts kept = record {
     rest = kept.0;
-    told = holds.told;
+    recorded = holds.recorded;
     split = kept.1 ∙ ap (λ l. l ++ kept.0) (whole_first log requests old records);
     len = holds.len;
     behind = elim kept.2 [
@@ -97,7 +97,7 @@ holds_after {M} Step old next log log' journal journal' request reply edit reque
 
 -- what another test would accept, too
 pub holds_so : (P Q : Request → Type 0) (log : LogState) (requests : List Request) (bytes : List ℕ) → ((request : Request) → P request → Q request) → HoldsLog P log requests bytes → HoldsLog Q log requests bytes
-holds_so P Q log requests bytes so h = record { rest = h.rest; told = h.told; split = h.split; len = h.len; behind = by_torn log.is_torn h.behind }
+holds_so P Q log requests bytes so h = record { rest = h.rest; recorded = h.recorded; split = h.split; len = h.len; behind = by_torn log.is_torn h.behind }
   where
     by_torn : (is_torn : Bool) → MatchBool is_torn ((request : Request) × IsRecordable request × P request × IsPrefixOf h.rest (record_of request)) (h.rest ≡ [])
         → MatchBool is_torn ((request : Request) × IsRecordable request × Q request × IsPrefixOf h.rest (record_of request)) (h.rest ≡ [])

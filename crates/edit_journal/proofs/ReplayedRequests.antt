@@ -73,7 +73,7 @@ module _ {S : Type 0} (stands : S → List Request → Type 0) (refuses : S → 
 
   pub redone_none : (at : ReplayProgress S) → at.log.is_torn ≡ false → AdvancesReplay stands refuses at at []
   redone_none at whole = record {
-    told = All-nil IsRecordedRequest;
+    recorded = All-nil IsRecordedRequest;
     redone = means_refl at.replayer;
     held = sym (append-nil at.journal.held);
     added =
@@ -87,7 +87,7 @@ module _ {S : Type 0} (stands : S → List Request → Type 0) (refuses : S → 
   pub redone_on : (r0 r1 r2 : ReplayProgress S) (first next : List Request)
       → AdvancesReplay stands refuses r0 r1 first → AdvancesReplay stands refuses r1 r2 next → AdvancesReplay stands refuses r0 r2 (first ++ next)
   redone_on r0 r1 r2 first next p q = record {
-    told = All-append IsRecordedRequest first next p.told q.told;
+    recorded = All-append IsRecordedRequest first next p.recorded q.recorded;
     redone = redoes_all_on r0.replayer r1.replayer r2.replayer first next p.redone q.redone;
     held = q.held ∙ held_on r0.journal.held r1.journal.held first next p.held;
     added = log_on r0.log r1.log r2.log first next p.added q.added;
@@ -131,7 +131,7 @@ module _ {S : Type 0} (stands : S → List Request → Type 0) (refuses : S → 
   stops_on r0 r1 r2 first bytes left fault p split q = record {
     requests = first ++ q.requests;
     rest = q.rest;
-    told = All-append IsRecordedRequest first q.requests p.told q.told;
+    recorded = All-append IsRecordedRequest first q.requests p.recorded q.recorded;
     split = split ∙ ap (λ l. journal_text first ++ l) q.split ∙ sym (append_assoc (journal_text first) (journal_text q.requests) q.rest) ∙ ap (λ l. l ++ q.rest) (sym (journal_text-append first q.requests));
     redone = redoes_all_on r0.replayer r1.replayer r2.replayer first q.requests p.redone q.redone;
     ending = stops_as_on r0 r1 r2 first q.requests q.rest fault p q.ending;
@@ -142,18 +142,18 @@ module _ {S : Type 0} (stands : S → List Request → Type 0) (refuses : S → 
   pub stops_refused : (at : ReplayProgress S) (replayer' : S) (number : ℕ) (request : Request) (more : List ℕ) → IsRecordedRequest request
       → refuses at.replayer request × IsEquivalentState stands refuses at.replayer replayer' → number ≡ at.count + 1
       → StopsReplay stands refuses at (record at { replayer = replayer' }) (record_of request ++ more) (Refused number)
-  stops_refused at replayer' number request more told (refused, same) is = record {
+  stops_refused at replayer' number request more recorded (refused, same) is = record {
     requests = [];
     rest = record_of request ++ more;
-    told = All-nil IsRecordedRequest;
+    recorded = All-nil IsRecordedRequest;
     split = refl;
     redone = same;
-    ending = (sym (append-nil at.journal.held), (request, more, (told, refl), (same.refuses_too request).1 refused), omega (arith, is), refl);
+    ending = (sym (append-nil at.journal.held), (request, more, (recorded, refl), (same.refuses_too request).1 refused), omega (arith, is), refl);
     goes = goes_none at.journal;
   }
 
   one_told : (request : Request) → IsRecordedRequest request → All IsRecordedRequest (request ∷ [])
-  one_told request told = All-cons IsRecordedRequest request [] told (All-nil IsRecordedRequest)
+  one_told request recorded = All-cons IsRecordedRequest request [] recorded (All-nil IsRecordedRequest)
 
   -- after the complete records comes only a prefix of the record
   some_added : (old new : List ℕ) (len : ℕ) (bytes : List ℕ) → length old ≡ len → KeepsCompleteRecords len bytes old new → AppendsPrefix old new bytes
@@ -170,12 +170,12 @@ module _ {S : Type 0} (stands : S → List Request → Type 0) (refuses : S → 
   pub one_redone : (old new : ReplayProgress S) (request : Request) (more : List ℕ) → IsRecordedRequest request → old.log.is_torn ≡ false → LogFitsJournal old.log old.journal
       → ReplaysRequest stands refuses old.replayer request Done new.replayer → new.count ≡ old.count + 1 → AddsRecord (journal_with_log old) (record_of request) (Ok tt) (journal_with_log new) → IsJournalProgress old.journal new.journal
       → ReplaysBufferedRecords stands refuses old new (record_of request ++ more) more (Ok tt)
-  one_redone old new request more told whole fits redo counts (added, held, none) goes =
+  one_redone old new request more recorded whole fits redo counts (added, held, none) goes =
       let all : take old.log.len old.journal.held ≡ old.journal.held = take_all old.log.len old.journal.held (omega (arith, whole_len old.log old.journal whole fits)) in (
         request ∷ [],
         ap (λ l. l ++ more) (sym (append-nil (record_of request))),
         record {
-          told = one_told request told;
+          recorded = one_told request recorded;
           redone = redoes_one old.replayer new.replayer request redo;
           held = held ∙ ap (λ l. l ++ record_of request) all ∙ ap (λ l. old.journal.held ++ l) (sym (append-nil (record_of request)));
           added = added ∙ ap (λ l. log_with_record old.log l) (sym (append-nil (record_of request)));
@@ -188,10 +188,10 @@ module _ {S : Type 0} (stands : S → List Request → Type 0) (refuses : S → 
   pub one_stopped : (old new : ReplayProgress S) (request : Request) (fault : AppendFault) (more : List ℕ) → IsRecordedRequest request → old.log.is_torn ≡ false → LogFitsJournal old.log old.journal
       → ReplaysRequest stands refuses old.replayer request Done new.replayer → AddsRecord (journal_with_log old) (record_of request) (Err fault) (journal_with_log new) → IsJournalProgress old.journal new.journal
       → StopsReplay stands refuses old new (record_of request ++ more) (restart_fault_of fault)
-  one_stopped old new request Failed more told whole fits redo (torn, kept, rose) goes = record {
+  one_stopped old new request Failed more recorded whole fits redo (torn, kept, rose) goes = record {
     requests = request ∷ [];
     rest = more;
-    told = one_told request told;
+    recorded = one_told request recorded;
     split = ap (λ l. l ++ more) (sym (append-nil (record_of request)));
     redone = redoes_one old.replayer new.replayer request redo;
     ending =
@@ -199,10 +199,10 @@ module _ {S : Type 0} (stands : S → List Request → Type 0) (refuses : S → 
         (([], request, refl, (adds.0, adds.1, adds.2 ∙ ap (λ l. l ++ adds.0) (sym (append-nil old.journal.held)))), rose);
     goes = goes;
   }
-  one_stopped old new request NoRecord more told whole fits redo (same, stays) goes = record {
+  one_stopped old new request NoRecord more recorded whole fits redo (same, stays) goes = record {
     requests = request ∷ [];
     rest = more;
-    told = one_told request told;
+    recorded = one_told request recorded;
     split = ap (λ l. l ++ more) (sym (append-nil (record_of request)));
     redone = redoes_one old.replayer new.replayer request redo;
     ending = (([], request ∷ [], refl, ap (λ (j : JournalState). j.held) stays ∙ sym (append-nil old.journal.held)), ap (λ (j : JournalState). j.faults) stays);

@@ -48,9 +48,9 @@ module _ {S : Type 0} (stands : S → List Request → Type 0) (refuses : S → 
       of_bytes r.bytes r.rest r.requests r.split new.journal.held (first.0, first.1 ∙ ap (λ l. l ++ first.0) (sym r.ending.3))
 
 pub more_shows : (bytes rest torn : List ℕ) (requests more : List Request) → HasCompleteRecords bytes requests rest → All IsRecordedRequest more → IsPrefixOf (journal_text (requests ++ more) ++ torn) bytes → more ≡ []
-more_shows bytes rest torn requests [] whole told begins = refl
-more_shows bytes rest torn requests (next ∷ more) whole told (behind, is) =
+more_shows bytes rest torn requests [] whole recorded begins = refl
+more_shows bytes rest torn requests (next ∷ more) whole recorded (behind, is) =
     let front : journal_text requests ++ rest ≡ journal_text requests ++ (journal_text (next ∷ more) ++ (torn ++ behind)) =
     sym whole.split ∙ is ∙ ap (λ l. (l ++ torn) ++ behind) (journal_text-append requests (next ∷ more)) ∙ append_assoc (journal_text requests ++ journal_text (next ∷ more)) torn behind ∙ append_assoc (journal_text requests) (journal_text (next ∷ more)) (torn ++ behind) in
     let begins : rest ≡ journal_text (next ∷ more) ++ (torn ++ behind) = second_part (journal_text requests) (journal_text (next ∷ more) ++ (torn ++ behind)) (journal_text requests) rest refl front in
-    absurd (whole.no_more next (journal_text more ++ (torn ++ behind)) (All-head IsRecordedRequest next more told, begins ∙ append_assoc (record_of next) (journal_text more) (torn ++ behind)))
+    absurd (whole.no_more next (journal_text more ++ (torn ++ behind)) (All-head IsRecordedRequest next more recorded, begins ∙ append_assoc (record_of next) (journal_text more) (torn ++ behind)))

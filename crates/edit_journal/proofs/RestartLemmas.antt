@@ -16,17 +16,17 @@ use Rattle.edit_journal.proofs.Beginnings.{begin_alike}
 use Rattle.edit_journal.proofs.Broken.{breaks_off, is_torn}
 
 -- The bytes, a prefix of the text of all requests, begin with the records of these.
-module _ (all requests : List Request) (bytes rest : List ℕ) (told : All IsRecordedRequest all) (begins : IsPrefixOf bytes (journal_text all)) (told' : All IsRecordedRequest requests) (split : bytes ≡ journal_text requests ++ rest) where
+module _ (all requests : List Request) (bytes rest : List ℕ) (recorded : All IsRecordedRequest all) (begins : IsPrefixOf bytes (journal_text all)) (recorded' : All IsRecordedRequest requests) (split : bytes ≡ journal_text requests ++ rest) where
   whole : HasNoRecord rest → (left : List Request) × IsJournalPrefix all bytes requests left rest
-  whole none = let broken = breaks_off all requests bytes rest told begins (record { told = told'; split = split; no_more = none }) in (broken.0, broken.1)
+  whole none = let broken = breaks_off all requests bytes rest recorded begins (record { recorded = recorded'; split = split; no_more = none }) in (broken.0, broken.1)
 
   undamaged : ¬ (IsDamaged rest)
   undamaged (none, not_torn) =
-      let broken = breaks_off all requests bytes rest told begins (record { told = told'; split = split; no_more = none }) in
+      let broken = breaks_off all requests bytes rest recorded begins (record { recorded = recorded'; split = split; no_more = none }) in
       not_torn (is_torn broken.0 rest broken.2 broken.1.torn)
 
   alike : (left : List Request) × (all ≡ requests ++ left) × (journal_text left ≡ rest ++ begins.0) × All IsRecordedRequest left
-  alike = begin_alike requests all (rest ++ begins.0) told' told (begins.1 ∙ ap (λ l. l ++ begins.0) split ∙ append_assoc (journal_text requests) rest begins.0)
+  alike = begin_alike requests all (rest ++ begins.0) recorded' recorded (begins.1 ∙ ap (λ l. l ++ begins.0) split ∙ append_assoc (journal_text requests) rest begins.0)
 
   first : (left : List Request) × (all ≡ requests ++ left)
   first = (alike.0, alike.1)
@@ -42,15 +42,15 @@ module _ {S : Type 0} (stands : S → List Request → Type 0) (refuses : S → 
   pub ends_behind : (all : List Request) (old new : RestartState S) (result : Result LogState RestartFault) → All IsRecordedRequest all
       → (restarts : RestartsReplayer stands refuses old new result) → IsPrefixOf (take MAX_JOURNAL_BYTES restarts.bytes) (journal_text all)
       → (left : List Request) × RestartEndsAfter refuses (record { all = all; bytes = take MAX_JOURNAL_BYTES restarts.bytes; done = restarts.requests; left = left; rest = restarts.rest }) new.replayer result
-  ends_behind all old new (Ok log) told r begins = whole all r.requests (take MAX_JOURNAL_BYTES r.bytes) r.rest told begins r.told r.split r.ending.2
-  ends_behind all old new (Err ReadFailed) told r begins = whole all r.requests (take MAX_JOURNAL_BYTES r.bytes) r.rest told begins r.told r.split r.ending.1
-  ends_behind all old new (Err AppendFailed) told r begins = first all r.requests (take MAX_JOURNAL_BYTES r.bytes) r.rest told begins r.told r.split
-  ends_behind all old new (Err (Damaged place)) told r begins =
-      absurd (undamaged all r.requests (take MAX_JOURNAL_BYTES r.bytes) r.rest told begins r.told r.split r.ending.1)
-  ends_behind all old new (Err (Refused number)) told r begins =
-      let here = alike all r.requests (take MAX_JOURNAL_BYTES r.bytes) r.rest told begins r.told r.split in
+  ends_behind all old new (Ok log) recorded r begins = whole all r.requests (take MAX_JOURNAL_BYTES r.bytes) r.rest recorded begins r.recorded r.split r.ending.2
+  ends_behind all old new (Err ReadFailed) recorded r begins = whole all r.requests (take MAX_JOURNAL_BYTES r.bytes) r.rest recorded begins r.recorded r.split r.ending.1
+  ends_behind all old new (Err AppendFailed) recorded r begins = first all r.requests (take MAX_JOURNAL_BYTES r.bytes) r.rest recorded begins r.recorded r.split
+  ends_behind all old new (Err (Damaged place)) recorded r begins =
+      absurd (undamaged all r.requests (take MAX_JOURNAL_BYTES r.bytes) r.rest recorded begins r.recorded r.split r.ending.1)
+  ends_behind all old new (Err (Refused number)) recorded r begins =
+      let here = alike all r.requests (take MAX_JOURNAL_BYTES r.bytes) r.rest recorded begins r.recorded r.split in
       let refused = r.ending.1 in
-      let more = next all r.requests (take MAX_JOURNAL_BYTES r.bytes) r.rest told begins r.told r.split refused.0 refused.1 refused.2 in
+      let more = next all r.requests (take MAX_JOURNAL_BYTES r.bytes) r.rest recorded begins r.recorded r.split refused.0 refused.1 refused.2 in
       (here.0, (here.1, (refused.0, more.0, more.1, refused.3)))
-  ends_behind all old new (Err TooLong) told r begins = whole all r.requests (take MAX_JOURNAL_BYTES r.bytes) r.rest told begins r.told r.split r.ending.2
-  ends_behind all old new (Err NoMemory) told r begins = first all r.requests (take MAX_JOURNAL_BYTES r.bytes) r.rest told begins r.told r.split
+  ends_behind all old new (Err TooLong) recorded r begins = whole all r.requests (take MAX_JOURNAL_BYTES r.bytes) r.rest recorded begins r.recorded r.split r.ending.2
+  ends_behind all old new (Err NoMemory) recorded r begins = first all r.requests (take MAX_JOURNAL_BYTES r.bytes) r.rest recorded begins r.recorded r.split

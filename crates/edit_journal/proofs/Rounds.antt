@@ -24,7 +24,7 @@ use Rattle.edit_journal.proofs.CompleteRequests.{nothing_in, nothing_torn}
 
 -- a torn record is shorter than the longest one
 pub torn_short : (bytes : List ℕ) → IsTorn bytes → length bytes < 300_004
-torn_short bytes (request, told, short, front) = omega (arith, record_length request, told.0.short)
+torn_short bytes (request, recorded, short, front) = omega (arith, record_length request, recorded.0.short)
 
 -- the log of an empty journal
 abbrev pub no_log : LogState
@@ -119,7 +119,7 @@ module _ {S : Type 0} (stands : S → List Request → Type 0) (refuses : S → 
     requests = p.requests;
     rest = i1.held;
     given = subst (λ (l : List ℕ). GivesBytes old.source.inward s2.inward l) (append-nil p.bytes) (gave_on old.source.inward s1.inward s2.inward p.bytes [] p.given gave);
-    told = p.redone.told;
+    recorded = p.redone.recorded;
     split = take_all MAX_JOURNAL_BYTES p.bytes (omega (arith, p.taken, p.few)) ∙ p.split;
     redone = p.redone.redone;
     stood = stood stands refuses old.replayer r1.replayer p.requests p.redone.redone;
@@ -139,7 +139,7 @@ module _ {S : Type 0} (stands : S → List Request → Type 0) (refuses : S → 
         requests = p.requests;
         rest = i1.held;
         given = gave_on old.source.inward s1.inward s2.inward p.bytes (byte ∷ []) p.given gave;
-        told = p.redone.told;
+        recorded = p.redone.recorded;
         split = ap (λ n. take n (p.bytes ++ byte ∷ [])) (sym size) ∙ take-append_seam p.bytes (byte ∷ []) ∙ p.split;
         redone = p.redone.redone;
         stood = stood stands refuses old.replayer r1.replayer p.requests p.redone.redone;
@@ -157,7 +157,7 @@ module _ {S : Type 0} (stands : S → List Request → Type 0) (refuses : S → 
     requests = p.requests;
     rest = i1.held;
     given = subst (λ now. GivesBytes old.source.inward now p.bytes) (sym same) p.given;
-    told = p.redone.told;
+    recorded = p.redone.recorded;
     split = take_all MAX_JOURNAL_BYTES p.bytes (omega (arith, p.taken, p.few)) ∙ p.split;
     redone = p.redone.redone;
     stood = stood stands refuses old.replayer r1.replayer p.requests p.redone.redone;
@@ -202,7 +202,7 @@ module _ {S : Type 0} (stands : S → List Request → Type 0) (refuses : S → 
         requests = on.requests;
         rest = on.rest;
         given = gave_on old.source.inward s1.inward s2.inward p.bytes more p.given gave;
-        told = on.told;
+        recorded = on.recorded;
         split = take_all MAX_JOURNAL_BYTES bytes (omega (arith, few, taken, p.taken, length-append p.bytes more)) ∙ on.split;
         redone = on.redone;
         stood = stood stands refuses old.replayer r2.replayer on.requests on.redone;
@@ -219,7 +219,7 @@ module _ {S : Type 0} (stands : S → List Request → Type 0) (refuses : S → 
     requests = [];
     rest = [];
     given = gave_none old.source.inward;
-    told = All-nil IsRecordedRequest;
+    recorded = All-nil IsRecordedRequest;
     split = take_all MAX_JOURNAL_BYTES [] (omega arith);
     redone = means_refl stands refuses old.replayer;
     stood = stood stands refuses old.replayer old.replayer [] (means_refl stands refuses old.replayer);

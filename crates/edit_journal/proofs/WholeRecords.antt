@@ -50,7 +50,7 @@ holds_added : (log : LogState) (request : Request) (requests : List Request) (ol
     → HoldsRecords (log_with_record log (record_of request)) (requests ++ recorded_request request ∷ []) new
 holds_added log request requests old new can behind holds = record {
   rest = [];
-  told = All-append IsRecordedRequest requests (recorded_request request ∷ []) holds.told (All-cons IsRecordedRequest (recorded_request request) [] (is_told request can) (All-nil IsRecordedRequest));
+  recorded = All-append IsRecordedRequest requests (recorded_request request ∷ []) holds.recorded (All-cons IsRecordedRequest (recorded_request request) [] (is_told request can) (All-nil IsRecordedRequest));
   split = behind ∙ ap (λ l. l ++ record_of request) (whole_first log requests old holds) ∙ sym (text_one_more requests request) ∙ sym (append-nil (journal_text (requests ++ recorded_request request ∷ [])));
   len = ap length (text_one_more requests request) ∙ length-append (journal_text requests) (record_of request) ∙ ap (λ n. n + length (record_of request)) holds.len;
   behind = refl;
@@ -60,7 +60,7 @@ holds_kept : (log : LogState) (request : Request) (requests : List Request) (old
     → HoldsRecords (record log { is_torn = true }) requests new
 holds_kept log request requests old new can kept holds = record {
   rest = kept.0;
-  told = holds.told;
+  recorded = holds.recorded;
   split = kept.1 ∙ ap (λ l. l ++ kept.0) (whole_first log requests old holds);
   len = holds.len;
   behind = elim kept.2 [

@@ -32,7 +32,7 @@ LogFitsJournal log journal =
 -- where the log is torn, a prefix of a record, or all of it.
 pub record HoldsRecords (log : LogState) (requests : List Request) (bytes : List ℕ) : Type 0 where
   pub rest : List ℕ
-  pub told : All IsRecordedRequest requests
+  pub recorded : All IsRecordedRequest requests
   pub split : bytes ≡ journal_text requests ++ rest
   pub len : length (journal_text requests) ≡ log.len
   pub behind : MatchBool log.is_torn

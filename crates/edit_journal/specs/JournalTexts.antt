@@ -36,7 +36,7 @@ IsDamaged bytes = HasNoRecord bytes × ¬ (IsTorn bytes)
 -- no record is.
 pub record HasCompleteRecords (bytes : List ℕ) (requests : List Request)
     (rest : List ℕ) : Type 0 where
-  pub told : All IsRecordedRequest requests
+  pub recorded : All IsRecordedRequest requests
   pub split : bytes ≡ journal_text requests ++ rest
   pub no_more : HasNoRecord rest
 

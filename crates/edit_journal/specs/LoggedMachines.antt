@@ -16,7 +16,7 @@ use Rattle.edit_journal.specs.LoggedRequests.{AcceptsRequest}
 pub record HoldsLog (Accepted : Request → Type 0) (log : LogState) (requests : List Request)
     (bytes : List ℕ) : Type 0 where
   pub rest : List ℕ
-  pub told : All IsRecordedRequest requests
+  pub recorded : All IsRecordedRequest requests
   pub split : bytes ≡ journal_text requests ++ rest
   pub len : length (journal_text requests) ≡ log.len
   pub behind : MatchBool log.is_torn

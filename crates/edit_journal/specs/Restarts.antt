@@ -84,7 +84,7 @@ module _ {S : Type 0} (stands : S → List Request → Type 0) (refuses : S → 
     pub requests : List Request
     pub rest : List ℕ
     pub given : GivesBytes old.source.inward new.source.inward bytes
-    pub told : All IsRecordedRequest requests
+    pub recorded : All IsRecordedRequest requests
     pub split : take MAX_JOURNAL_BYTES bytes ≡ journal_text requests ++ rest
     pub redone : ReplaysRequests stands refuses old.replayer requests new.replayer
     -- so the state represents each list that it represented before, with these requests at the end

@@ -56,10 +56,11 @@ pub fn restarts_do_the_first_requests<R: Replayer>()
         new.replayer result }
 {}
 
-/// A law: a new journal can be told from the old one that it was written from. However a restart
-/// ends, the new journal has a prefix of the old one, or all of it; and where it continues with
-/// one more record, it is no such prefix. So a new journal that is no prefix of the old one has
-/// all of the old one's records and more, and one that is has no record that the old one lacks.
+/// A law: a new journal can be distinguished from the old one that it was written from. However a
+/// restart ends, the new journal has a prefix of the old one, or all of it; and where it continues
+/// with one more record, it is no such prefix. So a new journal that is no prefix of the old one
+/// has all of the old one's records and more, and one that is has no record that the old one
+/// lacks.
 pub fn new_journals_are_told_from_old_ones<R: Replayer>()
     ensures copies_prefix { (old new : RestartState R) (result : Result LogState RestartFault)
         → (restarts : RestartsReplayer R.stands R.refuses old new result)

@@ -4,7 +4,6 @@ pub mod PlanAt
 pub mod PlanTag
 pub mod PlanUnder
 pub mod RemovalLemmas
-pub mod SiblingLemmas
 pub mod SideLemmas
 pub mod SpotLemmas
 pub mod TagLemmas

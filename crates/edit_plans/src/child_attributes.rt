@@ -8,16 +8,16 @@ ghost use Rattle.node_select.specs.Selection.{is_attr_named};
 ghost use Rattle.edit_rules.specs.StartTags.{HasFormedAttrs, AreAttrsAllowed, are_attrs_formed};
 ghost use Rattle.edit_plans.specs.inner.ChildChangeResults.{FitsWithinLevels, IsFoundInTag};
 ghost use Rattle.edit_plans.specs.inner.ChildChangeResults.{IsNewTagResult, IsSelectedChild};
-ghost use Rattle.edit_plans.specs.inner.ChildChangeResults.{not_found_refusal};
+ghost use Rattle.edit_plans.specs.inner.ChildChangeResults.{not_found_refusal, parent_context};
 
 use crate::insert_child::check_insertion;
-use crate::siblings::Siblings;
+use crate::parent::Parent;
 use edit_rules::EditRefusal;
 use node_select::{Step, find_attr_in};
 use std::alloc::Global;
 use usage_docs::{ElementKind, Fault, are_attrs_allowed, are_references_formed, kind_of};
 use xml_names::{Text, index_decls};
-use xml_tree::{Element, LinkedScope, Path};
+use xml_tree::{Element, LinkedScope};
 
 /// An attribute that a selector names, and how it is to be found afterwards: with this value, or
 /// not at all.
@@ -111,19 +111,15 @@ pub(crate) fn not_found_refusal(wanted: Option<&Text>) -> EditRefusal
 
 // Whether the attributes are valid for the child's element kind, if its parent has a kind and it
 // has one.
-fn are_attrs_allowed_in(
-    alloc: Global,
-    row: Option<ElementKind>,
-    scope: &LinkedScope<'_>,
-    tag: &Element,
-) -> bool
-    ensures exact { IsTrue result ↔ AreAttrsAllowed row scope.now tag.now }
+fn are_attrs_allowed_in(alloc: Global, parent: &Parent<'_>, tag: &Element) -> bool
+    ensures exact { IsTrue result
+        ↔ AreAttrsAllowed parent.now.kind parent.now.scope.now tag.now }
 {
-    let Some(row) = row else {
+    let Some(row) = parent.kind else {
         return true;
     };
     let declared = index_decls(alloc, tag.decls());
-    let inside = (&*scope).inside(&declared);
+    let inside = (&*parent.scope).inside(&declared);
     match kind_of(row, &inside, tag.name()) {
         None => true,
         Some(kind) => are_attrs_allowed(kind, &inside, tag.attrs()),
@@ -141,54 +137,43 @@ fn are_attrs_formed(kind: ElementKind, tag: &Element) -> bool
 }
 
 // Whether the child's reference has its form, if its parent has an element kind and it has one.
-fn attrs_formed_in(
-    alloc: Global,
-    row: Option<ElementKind>,
-    scope: &LinkedScope<'_>,
-    tag: &Element,
-) -> bool
-    ensures exact { IsTrue result ↔ HasFormedAttrs row scope.now tag.now }
+fn attrs_formed_in(alloc: Global, parent: &Parent<'_>, tag: &Element) -> bool
+    ensures exact { IsTrue result
+        ↔ HasFormedAttrs parent.now.kind parent.now.scope.now tag.now }
 {
-    let Some(row) = row else {
+    let Some(row) = parent.kind else {
         return true;
     };
     let declared = index_decls(alloc, tag.decls());
-    let inside = (&*scope).inside(&declared);
+    let inside = (&*parent.scope).inside(&declared);
     match kind_of(row, &inside, tag.name()) {
         None => true,
         Some(kind) => are_attrs_formed(kind, tag),
     }
 }
 
-/// The result for a child with this start tag, which the step selects; the parent is at this path.
-/// `CannotInsert` or `CannotDelete` where the attribute wouldn't be found as it should be,
-/// `Faulty` where it isn't allowed or is required; then as `check_insertion`.
+/// The result for a child with this start tag, which the step selects. `CannotInsert` or
+/// `CannotDelete` where the attribute wouldn't be found as it should be, `Faulty` where it isn't
+/// allowed or is required; then as `check_insertion`.
 pub(crate) fn attribute_change_in_parent(
     alloc: Global,
-    row: Option<ElementKind>,
-    scope: &LinkedScope<'_>,
+    parent: &Parent<'_>,
     step: &Step,
-    parent: &Element,
     child: usize,
-    place: &Path,
     tag: &Element,
     sought: &AttributeEdit<'_>,
 ) -> Result<usize, EditRefusal>
-    requires selected { IsSelectedChild
-        (record { kind = row; scope = scope.now; step = step.now; element = parent.now })
-        child }
-    requires room_left { FitsWithinLevels place.now tag.now }
-    ensures new_tag_plan { IsNewTagResult
-        (record { kind = row; scope = scope.now; step = step.now; element = parent.now })
-        (record { child = child; tag = tag.now; sought = sought.now }) place.now result }
+    requires selected { IsSelectedChild (parent_context parent.now step.now) child }
+    requires room_left { FitsWithinLevels parent.now.path.now tag.now }
+    ensures new_tag_plan { IsNewTagResult (parent_context parent.now step.now)
+        (record { child = child; tag = tag.now; sought = sought.now }) parent.now.path.now result }
 {
-    if !is_found_in(alloc, scope, step, tag, sought) {
+    if !is_found_in(alloc, parent.scope, step, tag, sought) {
         return Err(not_found_refusal(sought.value));
     }
-    if !are_attrs_allowed_in(alloc, row, scope, tag) {
+    if !are_attrs_allowed_in(alloc, parent, tag) {
         return Err(EditRefusal::Faulty(Fault::Invalid));
     }
-    let formed = attrs_formed_in(alloc, row, scope, tag);
-    let siblings = Siblings::without(parent, child);
-    check_insertion(alloc, row, scope, &siblings, place, tag, child, formed)
+    let formed = attrs_formed_in(alloc, parent, tag);
+    check_insertion(alloc, parent, Some(child), tag, child, formed)
 }

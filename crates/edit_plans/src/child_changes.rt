@@ -3,10 +3,12 @@ ghost use Rattle.std.specs.Prelude.{◌≡◌, ◌∷◌, [], Some, IsSome, opti
 ghost use Rattle.xml_tree.specs.Tree.{at};
 ghost use Rattle.usage_docs.specs.SchemaTable.{kind_of, root_kind};
 ghost use Rattle.edit_plans.specs.inner.ChildChangeResults.{IsChildChangeResult, MayChangeChild};
+ghost use Rattle.edit_plans.specs.inner.ChildChangeResults.{parent_context};
 ghost use Rattle.edit_plans.specs.inner.ParentPaths.{HoldsAtParent};
 
 use crate::child_attributes::{AttributeEdit, attribute_change_in_parent};
 use crate::insert_child::insertion_in_parent;
+use crate::parent::Parent;
 use crate::remove_child::removal_in_parent;
 use crate::replace_child::replacement_in_parent;
 use doc_names::Usage;
@@ -30,34 +32,27 @@ pub(crate) enum ChildChange<'a> {
     SetAttributes(usize, &'a Element, &'a AttributeEdit<'a>),
 }
 
-// The result at a parent at this path: an insertion point, or the number of the child.
+// The result at a parent: an insertion point, or the number of the child.
 fn answer_at_parent(
     alloc: Global,
-    row: Option<ElementKind>,
-    scope: &LinkedScope<'_>,
+    parent: &Parent<'_>,
     step: &Step,
-    parent: &Element,
-    place: &Path,
     asked: &ChildChange<'_>,
 ) -> Result<usize, EditRefusal>
-    requires change_asked { MayChangeChild
-        (record { kind = row; scope = scope.now; step = step.now; element = parent.now })
-        place.now asked.now }
-    ensures request_answer { IsChildChangeResult
-        (record { kind = row; scope = scope.now; step = step.now; element = parent.now })
-        place.now asked.now result }
+    requires change_asked { MayChangeChild (parent_context parent.now step.now)
+        parent.now.path.now asked.now }
+    ensures request_answer { IsChildChangeResult (parent_context parent.now step.now)
+        parent.now.path.now asked.now result }
 {
     match *asked {
-        ChildChange::Put(new) => insertion_in_parent(alloc, row, scope, step, parent, place, new),
+        ChildChange::Put(new) => insertion_in_parent(alloc, parent, step, new),
         ChildChange::Exchange(child, new) => {
-            replacement_in_parent(alloc, row, scope, step, parent, child, place, new)
+            replacement_in_parent(alloc, parent, step, child, new)
         }
-        ChildChange::RemoveChild(child) => removal_in_parent(
-            alloc, row, scope, step, parent, child,
-        ),
-        ChildChange::SetAttributes(child, tag, sought) => attribute_change_in_parent(
-            alloc, row, scope, step, parent, child, place, tag, sought,
-        ),
+        ChildChange::RemoveChild(child) => removal_in_parent(alloc, parent, step, child),
+        ChildChange::SetAttributes(child, tag, sought) => {
+            attribute_change_in_parent(alloc, parent, step, child, tag, sought)
+        }
     }
 }
 
@@ -99,7 +94,13 @@ fn answer_below(
         row scope.now element.now way.now }
 {
     let [number, way @ ..] = way else {
-        return answer_at_parent(alloc, row, scope, step, element, place, asked);
+        let parent = Parent {
+            element,
+            path: place,
+            kind: row,
+            scope: &*scope,
+        };
+        return answer_at_parent(alloc, &parent, step, asked);
     };
     match element.child_element(*number) {
         None => unreachable!(),

@@ -14,12 +14,13 @@ ghost use Rattle.edit_plans.specs.inner.Neighbours.{FitsInsertionPoint, fits_bet
 ghost use Rattle.edit_plans.specs.declared.insertion_points.NoInsertionPoint.TheVariants.{Unlawful};
 ghost use Rattle.edit_plans.specs.declared.insertion_points.NoInsertionPoint.TheVariants.{Invalid};
 
+use crate::parent::Parent;
 use crate::remove_child::part_before_child;
 use node_select::{Step, is_at_position};
 use std::alloc::Global;
 use usage_docs::{END, ElementKind, is_valid_child, may_follow, part_of};
 use xml_names::IndexedDecls;
-use xml_tree::{Element, LinkedScope, Node};
+use xml_tree::{Element, Node};
 
 /// Why there is no insertion point.
 #[derive(Clone, Copy, Drop)]
@@ -51,20 +52,16 @@ fn gap_or_refusal(
     }
 }
 
-/// The content-model part of a child, by its parent's element kind, if there is one.
-pub(crate) fn part_in(
-    alloc: Global,
-    row: Option<ElementKind>,
-    scope: &LinkedScope<'_>,
-    child_element: &Element,
-) -> u8
-    ensures child_part { result ≡ part_in row scope.now child_element.now }
+/// The content-model part of a child, by its parent's element kind, if it has one.
+pub(crate) fn part_in(alloc: Global, parent: &Parent<'_>, child_element: &Element) -> u8
+    ensures child_part { result ≡ part_in parent.now.kind parent.now.scope.now child_element.now }
 {
-    match row {
+    match parent.kind {
         None => 0,
-        Some(row) => {
+        Some(kind) => {
             let declared = IndexedDecls::new(alloc, child_element.decls());
-            part_of(row, &(&*scope).inside(&declared), child_element.name())
+            let inside = (&*parent.scope).inside(&declared);
+            part_of(kind, &inside, child_element.name())
         }
     }
 }
@@ -86,17 +83,13 @@ pub(crate) fn may_stand_between(
 }
 
 /// Whether a new child is valid by itself, if the parent has an element kind.
-pub(crate) fn is_valid_in(
-    alloc: Global,
-    row: Option<ElementKind>,
-    scope: &LinkedScope<'_>,
-    new: &Element,
-) -> bool
-    ensures valid_iff { ForSome row (λ kind. IsTrue result ↔ IsValidChild kind scope.now new.now) }
+pub(crate) fn is_valid_in(alloc: Global, parent: &Parent<'_>, new: &Element) -> bool
+    ensures valid_iff { ForSome parent.now.kind
+        (λ kind. IsTrue result ↔ IsValidChild kind parent.now.scope.now new.now) }
 {
-    match row {
+    match parent.kind {
         None => true,
-        Some(row) => is_valid_child(alloc, row, scope, new),
+        Some(kind) => is_valid_child(alloc, kind, parent.scope, new),
     }
 }
 
@@ -104,15 +97,16 @@ pub(crate) fn is_valid_in(
 /// children pass it.
 pub(crate) fn passes_step(
     alloc: Global,
-    scope: &LinkedScope<'_>,
+    parent: &Parent<'_>,
     step: &Step,
     child_element: &Element,
 ) -> bool
     ensures exact { IsTrue result
-        ↔ (IsTrue (is_named scope.now step.now child_element.now)
-        × IsTrue (is_tested scope.now step.now child_element.now)) }
+        ↔ (IsTrue (is_named parent.now.scope.now step.now child_element.now)
+        × IsTrue (is_tested parent.now.scope.now step.now child_element.now)) }
 {
-    step.matches_test(alloc, scope, child_element) && step.matches_name(alloc, scope, child_element)
+    step.matches_test(alloc, parent.scope, child_element)
+        && step.matches_name(alloc, parent.scope, child_element)
 }
 
 // Counts one more where `more` is set.
@@ -124,15 +118,16 @@ fn count_if(before: u64, more: bool) -> u64
 }
 
 // Whether any child passes both tests of a step.
-fn any_passes(alloc: Global, scope: &LinkedScope<'_>, step: &Step, parent: &Element) -> bool
+fn any_passes(alloc: Global, parent: &Parent<'_>, step: &Step) -> bool
     ensures exact { IsTrue result
-        ↔ ((k : ℕ) × Matches (is_named scope.now step.now) (is_tested scope.now step.now) None
-        (child_elements_of parent.now) k) }
+        ↔ ((k : ℕ) × Matches (is_named parent.now.scope.now step.now)
+        (is_tested parent.now.scope.now step.now) None
+        (child_elements_of parent.now.element.now) k) }
 {
     let mut i: usize = 0;
-    for node in parent.nodes() {
+    for node in parent.element.nodes() {
         if let Node::Elem(child_element) = node {
-            if passes_step(alloc, scope, step, child_element) {
+            if passes_step(alloc, parent, step, child_element) {
                 return true;
             }
             i += 1;
@@ -143,14 +138,14 @@ fn any_passes(alloc: Global, scope: &LinkedScope<'_>, step: &Step, parent: &Elem
 
 // Whether no other child keeps the new one from being selected: the step has a position, or no
 // child passes both tests.
-fn can_be_selected(alloc: Global, scope: &LinkedScope<'_>, step: &Step, parent: &Element) -> bool
+fn can_be_selected(alloc: Global, parent: &Parent<'_>, step: &Step) -> bool
     ensures exact { IsTrue result
-        ↔ AllowsInsertion (is_named scope.now step.now)
-        (is_tested scope.now step.now) step.now.position
-        (child_elements_of parent.now) }
+        ↔ AllowsInsertion (is_named parent.now.scope.now step.now)
+        (is_tested parent.now.scope.now step.now) step.now.position
+        (child_elements_of parent.now.element.now) }
 {
     match step.position {
-        None => !any_passes(alloc, scope, step, parent),
+        None => !any_passes(alloc, parent, step),
         Some(_) => true,
     }
 }
@@ -171,43 +166,41 @@ fn count_children(parent: &Element) -> usize
 // Whether a new child may come after all `many` children.
 fn fits_after_last(
     alloc: Global,
-    row: Option<ElementKind>,
-    scope: &LinkedScope<'_>,
-    parent: &Element,
+    parent: &Parent<'_>,
     new: &Element,
     itself: bool,
     many: usize,
 ) -> bool
-    requires children_counted { many ≡ length (child_elements_of parent.now) }
-    requires itself_valid { ForSome row
-        (λ kind. IsTrue itself ↔ IsValidChild kind scope.now new.now) }
-    ensures exact { IsTrue result ↔ FitsInsertionPoint row scope.now parent.now.content new.now
-        many }
+    requires children_counted { many ≡ length (child_elements_of parent.now.element.now) }
+    requires itself_valid { ForSome parent.now.kind
+        (λ kind. IsTrue itself ↔ IsValidChild kind parent.now.scope.now new.now) }
+    ensures exact { IsTrue result
+        ↔ FitsInsertionPoint parent.now.kind parent.now.scope.now parent.now.element.now.content
+        new.now many }
 {
-    let part = part_in(alloc, row, scope, new);
-    let left = part_before_child(alloc, row, scope, parent, many);
-    may_stand_between(row, itself, left, part, END)
+    let part = part_in(alloc, parent, new);
+    let left = part_before_child(alloc, parent, many);
+    may_stand_between(parent.kind, itself, left, part, END)
 }
 
 // Whether a step has no position, and the new child may come after all children.
 fn takes_last_gap(
     alloc: Global,
-    row: Option<ElementKind>,
-    scope: &LinkedScope<'_>,
+    parent: &Parent<'_>,
     step: &Step,
-    parent: &Element,
     new: &Element,
     itself: bool,
     many: usize,
 ) -> bool
-    requires children_counted { many ≡ length (child_elements_of parent.now) }
-    requires itself_valid { ForSome row
-        (λ kind. IsTrue itself ↔ IsValidChild kind scope.now new.now) }
+    requires children_counted { many ≡ length (child_elements_of parent.now.element.now) }
+    requires itself_valid { ForSome parent.now.kind
+        (λ kind. IsTrue itself ↔ IsValidChild kind parent.now.scope.now new.now) }
     ensures fits_any_order { IsTrue result → (step.now.position ≡ None)
-        × FitsInsertionPoint row scope.now parent.now.content new.now many }
+        × FitsInsertionPoint parent.now.kind parent.now.scope.now parent.now.element.now.content
+        new.now many }
 {
     match step.position {
-        None => fits_after_last(alloc, row, scope, parent, new, itself, many),
+        None => fits_after_last(alloc, parent, new, itself, many),
         Some(_) => false,
     }
 }
@@ -216,100 +209,105 @@ fn takes_last_gap(
 // the one after all children, if a quick check suffices, else by a pass over them.
 fn greatest_gap(
     alloc: Global,
-    row: Option<ElementKind>,
-    scope: &LinkedScope<'_>,
+    parent: &Parent<'_>,
     step: &Step,
-    parent: &Element,
     new: &Element,
     itself: bool,
 ) -> Result<usize, NoInsertionPoint>
-    requires name_matches { IsTrue (is_named scope.now step.now new.now) }
-    requires test_matches { IsTrue (is_tested scope.now step.now new.now) }
-    requires position_free { AllowsInsertion (is_named scope.now step.now)
-        (is_tested scope.now step.now) step.now.position (child_elements_of parent.now) }
-    requires itself_valid { ForSome row
-        (λ kind. IsTrue itself ↔ IsValidChild kind scope.now new.now) }
+    requires name_matches { IsTrue (is_named parent.now.scope.now step.now new.now) }
+    requires test_matches { IsTrue (is_tested parent.now.scope.now step.now new.now) }
+    requires position_free { AllowsInsertion (is_named parent.now.scope.now step.now)
+        (is_tested parent.now.scope.now step.now) step.now.position
+        (child_elements_of parent.now.element.now) }
+    requires itself_valid { ForSome parent.now.kind
+        (λ kind. IsTrue itself ↔ IsValidChild kind parent.now.scope.now new.now) }
     ensures lawful_plan { IsInsertionPlan Unlawful Invalid
-        (IsLawfulInsertion (is_named scope.now step.now)
-        (is_tested scope.now step.now) step.now.position (child_elements_of parent.now) new.now)
-        (FitsInsertionPoint row scope.now parent.now.content new.now)
-        (length (child_elements_of parent.now) + 1) result }
+        (IsLawfulInsertion (is_named parent.now.scope.now step.now)
+        (is_tested parent.now.scope.now step.now) step.now.position
+        (child_elements_of parent.now.element.now) new.now)
+        (FitsInsertionPoint parent.now.kind parent.now.scope.now parent.now.element.now.content
+        new.now)
+        (length (child_elements_of parent.now.element.now) + 1) result }
 {
-    let many = count_children(parent);
-    if takes_last_gap(alloc, row, scope, step, parent, new, itself, many) {
+    let many = count_children(parent.element);
+    if takes_last_gap(alloc, parent, step, new, itself, many) {
         return Ok(many);
     }
-    last_gap(alloc, row, scope, step, parent, new, itself)
+    last_gap(alloc, parent, step, new, itself)
 }
 
 // The last insertion point by a pass over the children, which tries each one.
 fn last_gap(
     alloc: Global,
-    row: Option<ElementKind>,
-    scope: &LinkedScope<'_>,
+    parent: &Parent<'_>,
     step: &Step,
-    parent: &Element,
     new: &Element,
     itself: bool,
 ) -> Result<usize, NoInsertionPoint>
-    requires name_matches { IsTrue (is_named scope.now step.now new.now) }
-    requires test_matches { IsTrue (is_tested scope.now step.now new.now) }
-    requires position_free { AllowsInsertion (is_named scope.now step.now)
-        (is_tested scope.now step.now) step.now.position (child_elements_of parent.now) }
-    requires itself_valid { ForSome row
-        (λ kind. IsTrue itself ↔ IsValidChild kind scope.now new.now) }
+    requires name_matches { IsTrue (is_named parent.now.scope.now step.now new.now) }
+    requires test_matches { IsTrue (is_tested parent.now.scope.now step.now new.now) }
+    requires position_free { AllowsInsertion (is_named parent.now.scope.now step.now)
+        (is_tested parent.now.scope.now step.now) step.now.position
+        (child_elements_of parent.now.element.now) }
+    requires itself_valid { ForSome parent.now.kind
+        (λ kind. IsTrue itself ↔ IsValidChild kind parent.now.scope.now new.now) }
     ensures lawful_plan { IsInsertionPlan Unlawful Invalid
-        (IsLawfulInsertion (is_named scope.now step.now)
-        (is_tested scope.now step.now) step.now.position (child_elements_of parent.now) new.now)
-        (FitsInsertionPoint row scope.now parent.now.content new.now)
-        (length (child_elements_of parent.now) + 1) result }
+        (IsLawfulInsertion (is_named parent.now.scope.now step.now)
+        (is_tested parent.now.scope.now step.now) step.now.position
+        (child_elements_of parent.now.element.now) new.now)
+        (FitsInsertionPoint parent.now.kind parent.now.scope.now parent.now.element.now.content
+        new.now)
+        (length (child_elements_of parent.now.element.now) + 1) result }
 {
-    let part = part_in(alloc, row, scope, new);
+    let part = part_in(alloc, parent, new);
     let mut answer = Err(NoInsertionPoint::Unlawful);
     let mut before: u64 = 0;
     let mut prev: u8 = 0;
     let mut i: usize = 0;
-    for node in parent.nodes() {
+    for node in parent.element.nodes() {
         if let Node::Elem(child_element) = node {
-            let next = part_in(alloc, row, scope, child_element);
+            let next = part_in(alloc, parent, child_element);
             let lawful = is_at_position(step.position, before);
-            let valid = may_stand_between(row, itself, prev, part, next);
+            let valid = may_stand_between(parent.kind, itself, prev, part, next);
             answer = gap_or_refusal(answer, i, lawful, valid);
-            before = count_if(before, step.matches_name(alloc, scope, child_element));
+            before = count_if(
+                before,
+                step.matches_name(alloc, parent.scope, child_element),
+            );
             prev = next;
             i += 1;
         }
     }
     let lawful = is_at_position(step.position, before);
-    let valid = may_stand_between(row, itself, prev, part, END);
+    let valid = may_stand_between(parent.kind, itself, prev, part, END);
     gap_or_refusal(answer, i, lawful, valid)
 }
 
-/// The last insertion point of an element, in the scope inside it and by its element kind, if it
-/// has one, at which the step selects the new child and the element stays valid.
+/// The last insertion point of a parent at which the step selects the new child and the parent
+/// stays valid.
 pub(crate) fn choose_gap(
     alloc: Global,
-    row: Option<ElementKind>,
-    scope: &LinkedScope<'_>,
+    parent: &Parent<'_>,
     step: &Step,
-    parent: &Element,
     new: &Element,
 ) -> Result<usize, NoInsertionPoint>
     ensures lawful_plan { IsInsertionPlan Unlawful Invalid
-        (IsLawfulInsertion (is_named scope.now step.now)
-        (is_tested scope.now step.now) step.now.position (child_elements_of parent.now) new.now)
-        (FitsInsertionPoint row scope.now parent.now.content new.now)
-        (length (child_elements_of parent.now) + 1) result }
+        (IsLawfulInsertion (is_named parent.now.scope.now step.now)
+        (is_tested parent.now.scope.now step.now) step.now.position
+        (child_elements_of parent.now.element.now) new.now)
+        (FitsInsertionPoint parent.now.kind parent.now.scope.now parent.now.element.now.content
+        new.now)
+        (length (child_elements_of parent.now.element.now) + 1) result }
 {
-    if !step.matches_name(alloc, scope, new) {
+    if !step.matches_name(alloc, parent.scope, new) {
         return Err(NoInsertionPoint::Unlawful);
     }
-    if !step.matches_test(alloc, scope, new) {
+    if !step.matches_test(alloc, parent.scope, new) {
         return Err(NoInsertionPoint::Unlawful);
     }
-    if !can_be_selected(alloc, scope, step, parent) {
+    if !can_be_selected(alloc, parent, step) {
         return Err(NoInsertionPoint::Unlawful);
     }
-    let itself = is_valid_in(alloc, row, scope, new);
-    greatest_gap(alloc, row, scope, step, parent, new, itself)
+    let itself = is_valid_in(alloc, parent, new);
+    greatest_gap(alloc, parent, step, new, itself)
 }

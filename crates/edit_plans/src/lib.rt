@@ -13,6 +13,7 @@ mod child_changes;
 mod delete_node;
 mod insert_child;
 mod insertion_points;
+mod parent;
 mod put_attribute;
 mod put_element;
 mod remove_child;

@@ -7,50 +7,47 @@ ghost use Rattle.node_select.specs.Selection.{SelectsChild, is_named, is_tested}
 ghost use Rattle.usage_docs.specs.readers.NeighbourParts.{part_before, part_after};
 ghost use Rattle.edit_rules.specs.Removals.{NeighboursMayMeet, StillSelectsChild};
 ghost use Rattle.edit_plans.specs.inner.ChildChangeResults.{IsRemovalResult, IsSelectedChild};
+ghost use Rattle.edit_plans.specs.inner.ChildChangeResults.{parent_context};
 
 use crate::insertion_points::part_in;
+use crate::parent::Parent;
 use edit_rules::EditRefusal;
 use node_select::Step;
 use std::alloc::Global;
-use usage_docs::{END, ElementKind, Fault, may_follow};
-use xml_tree::{Element, LinkedScope, Node};
+use usage_docs::{END, Fault, may_follow};
+use xml_tree::{Element, Node};
 
 // Whether the i-th child comes after another one and has the step's name.
 fn is_next(
     alloc: Global,
-    scope: &LinkedScope<'_>,
+    parent: &Parent<'_>,
     step: &Step,
     child: usize,
     i: usize,
     child_element: &Element,
 ) -> bool
     ensures exact { IsTrue result
-        ↔ ((child < i) × IsTrue (is_named scope.now step.now child_element.now)) }
+        ↔ ((child < i) × IsTrue (is_named parent.now.scope.now step.now child_element.now)) }
 {
     if i <= child {
         return false;
     }
-    step.matches_name(alloc, scope, child_element)
+    step.matches_name(alloc, parent.scope, child_element)
 }
 
 // Whether the next child of the step's name after this one passes the attribute test too.
-fn next_passes(
-    alloc: Global,
-    scope: &LinkedScope<'_>,
-    step: &Step,
-    parent: &Element,
-    child: usize,
-) -> bool
-    requires { child < length (child_elements_of parent.now) }
+fn next_passes(alloc: Global, parent: &Parent<'_>, step: &Step, child: usize) -> bool
+    requires { child < length (child_elements_of parent.now.element.now) }
     ensures exact { IsTrue result
-        ↔ ((i : ℕ) × IsNextMatch (is_named scope.now step.now) (is_tested scope.now step.now)
-        (remove (child_elements_of parent.now) child) child i) }
+        ↔ ((i : ℕ) × IsNextMatch (is_named parent.now.scope.now step.now)
+        (is_tested parent.now.scope.now step.now)
+        (remove (child_elements_of parent.now.element.now) child) child i) }
 {
     let mut i: usize = 0;
-    for node in parent.nodes() {
+    for node in parent.element.nodes() {
         if let Node::Elem(child_element) = node {
-            if is_next(alloc, scope, step, child, i, child_element) {
-                return step.matches_test(alloc, scope, child_element);
+            if is_next(alloc, parent, step, child, i, child_element) {
+                return step.matches_test(alloc, parent.scope, child_element);
             }
             i += 1;
         }
@@ -59,61 +56,47 @@ fn next_passes(
 }
 
 // Whether the step still selects a child once the selected one is removed.
-fn still_selects_child(
-    alloc: Global,
-    scope: &LinkedScope<'_>,
-    step: &Step,
-    parent: &Element,
-    child: usize,
-) -> bool
-    requires { SelectsChild scope.now step.now (child_elements_of parent.now) child }
+fn still_selects_child(alloc: Global, parent: &Parent<'_>, step: &Step, child: usize) -> bool
+    requires { SelectsChild parent.now.scope.now step.now
+        (child_elements_of parent.now.element.now) child }
     ensures exact { IsTrue result
-        ↔ StillSelectsChild scope.now step.now (child_elements_of parent.now) child }
+        ↔ StillSelectsChild parent.now.scope.now step.now
+        (child_elements_of parent.now.element.now) child }
 {
     match step.position {
         None => false,
-        Some(_) => next_passes(alloc, scope, step, parent, child),
+        Some(_) => next_passes(alloc, parent, step, child),
     }
 }
 
 /// The part of the child before this one, or the beginning. The number may be one past the last
 /// child.
-pub(crate) fn part_before_child(
-    alloc: Global,
-    row: Option<ElementKind>,
-    scope: &LinkedScope<'_>,
-    parent: &Element,
-    child: usize,
-) -> u8
-    requires { child ≤ length (child_elements_of parent.now) }
-    ensures exact { ForSome row
-        (λ kind. result ≡ part_before kind scope.now 0 child parent.now.content) }
+pub(crate) fn part_before_child(alloc: Global, parent: &Parent<'_>, child: usize) -> u8
+    requires { child ≤ length (child_elements_of parent.now.element.now) }
+    ensures exact { ForSome parent.now.kind
+        (λ kind. result
+        ≡ part_before kind parent.now.scope.now 0 child parent.now.element.now.content) }
 {
     if child == 0 {
         return 0;
     }
-    match parent.child_element(child - 1) {
-        Some(child_element) => part_in(alloc, row, scope, child_element),
+    match parent.element.child_element(child - 1) {
+        Some(child_element) => part_in(alloc, parent, child_element),
         None => unreachable!(),
     }
 }
 
 /// The part of the child after this one, or the end.
-pub(crate) fn part_after_child(
-    alloc: Global,
-    row: Option<ElementKind>,
-    scope: &LinkedScope<'_>,
-    parent: &Element,
-    child: usize,
-) -> u8
-    ensures exact { ForSome row
-        (λ kind. result ≡ part_after kind scope.now (suc child) parent.now.content) }
+pub(crate) fn part_after_child(alloc: Global, parent: &Parent<'_>, child: usize) -> u8
+    ensures exact { ForSome parent.now.kind
+        (λ kind. result
+        ≡ part_after kind parent.now.scope.now (suc child) parent.now.element.now.content) }
 {
     let mut i: usize = 0;
-    for node in parent.nodes() {
+    for node in parent.element.nodes() {
         if let Node::Elem(child_element) = node {
             if child < i {
-                return part_in(alloc, row, scope, child_element);
+                return part_in(alloc, parent, child_element);
             }
             i += 1;
         }
@@ -122,19 +105,15 @@ pub(crate) fn part_after_child(
 }
 
 // Whether the next child may follow the one before this one.
-fn neighbours_may_meet(
-    alloc: Global,
-    row: Option<ElementKind>,
-    scope: &LinkedScope<'_>,
-    parent: &Element,
-    child: usize,
-) -> bool
-    requires { child < length (child_elements_of parent.now) }
-    ensures exact { IsTrue result ↔ NeighboursMayMeet row scope.now parent.now.content child }
+fn neighbours_may_meet(alloc: Global, parent: &Parent<'_>, child: usize) -> bool
+    requires { child < length (child_elements_of parent.now.element.now) }
+    ensures exact { IsTrue result
+        ↔ NeighboursMayMeet parent.now.kind parent.now.scope.now parent.now.element.now.content
+        child }
 {
-    let left = part_before_child(alloc, row, scope, parent, child);
-    let right = part_after_child(alloc, row, scope, parent, child);
-    match row {
+    let left = part_before_child(alloc, parent, child);
+    let right = part_after_child(alloc, parent, child);
+    match parent.kind {
         None => true,
         Some(kind) => may_follow(kind, left, right),
     }
@@ -147,23 +126,17 @@ fn neighbours_may_meet(
 /// wouldn't be valid.
 pub(crate) fn removal_in_parent(
     alloc: Global,
-    row: Option<ElementKind>,
-    scope: &LinkedScope<'_>,
+    parent: &Parent<'_>,
     step: &Step,
-    parent: &Element,
     child: usize,
 ) -> Result<usize, EditRefusal>
-    requires selected { IsSelectedChild
-        (record { kind = row; scope = scope.now; step = step.now; element = parent.now })
-        child }
-    ensures removal_plan { IsRemovalResult
-        (record { kind = row; scope = scope.now; step = step.now; element = parent.now })
-        child result }
+    requires selected { IsSelectedChild (parent_context parent.now step.now) child }
+    ensures removal_plan { IsRemovalResult (parent_context parent.now step.now) child result }
 {
-    if still_selects_child(alloc, scope, step, parent, child) {
+    if still_selects_child(alloc, parent, step, child) {
         return Err(EditRefusal::CannotDelete);
     }
-    if !neighbours_may_meet(alloc, row, scope, parent, child) {
+    if !neighbours_may_meet(alloc, parent, child) {
         return Err(EditRefusal::Faulty(Fault::Invalid));
     }
     Ok(child)

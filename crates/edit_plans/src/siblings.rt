@@ -14,45 +14,15 @@ ghost use Rattle.edit_rules.specs.NewElements.{HasNoDuplicate};
 ghost use Rattle.usage_docs.specs.ElementKinds.{kind_of_child};
 ghost use Rattle.edit_plans.specs.inner.ChildChangeResults.{FitsWithinLevels};
 ghost use Rattle.edit_plans.specs.inner.ChildChangeResults.{number_among_siblings};
-ghost use Rattle.edit_plans.specs.inner.ChildChangeResults.{siblings_without};
+ghost use Rattle.edit_plans.specs.inner.ChildChangeResults.{siblings_under, siblings_without};
 ghost use Rattle.edit_plans.specs.declared.siblings.DuplicateKey.{DuplicateKey};
 
+use crate::parent::Parent;
 use node_select::same_text;
 use std::alloc::Global;
 use usage_docs::{Clash, ElementKind, Key, clash_below, key_of, kind_of, value_of};
 use xml_names::{IndexedDecls, index_decls};
 use xml_tree::{Element, LinkedScope, Node, Path};
-
-/// The siblings of a new element: the children of its parent, except the one that it replaces.
-#[derive(Drop)]
-pub(crate) struct Siblings<'a> {
-    pub(crate) parent: &'a Element,
-    pub(crate) left_out: Option<usize>,
-}
-
-impl<'a> Siblings<'a> {
-    /// All children.
-    pub(crate) fn all(parent: &'a Element) -> Siblings<'a>
-        ensures same_parent { result.parent.now ≡ parent.now }
-        ensures leaves_out_none { result.left_out ≡ None }
-    {
-        Siblings {
-            parent,
-            left_out: None,
-        }
-    }
-
-    /// All but one.
-    pub(crate) fn without(parent: &'a Element, child: usize) -> Siblings<'a>
-        ensures same_parent { result.parent.now ≡ parent.now }
-        ensures leaves_out_child { result.left_out ≡ Some child }
-    {
-        Siblings {
-            parent,
-            left_out: Some(child),
-        }
-    }
-}
 
 /// A sibling with the element kind and the key of a new element, by its number among the siblings.
 #[derive(Clone, Copy, Drop)]
@@ -131,7 +101,7 @@ fn is_left_out(left_out: Option<usize>, child: usize) -> bool
 fn is_sibling_with_key(
     alloc: Global,
     row: ElementKind,
-    scope: &LinkedScope<'_>,
+    parent: &Parent<'_>,
     kind: ElementKind,
     key: Key,
     value: &str,
@@ -142,13 +112,13 @@ fn is_sibling_with_key(
     requires { key_of kind ≡ Some key }
     ensures exact { IsTrue result
         ↔ ((left_out ≡ Some child → ⊥)
-        × (sibling_key_of row scope.now child_element.now
+        × (sibling_key_of row parent.now.scope.now child_element.now
         ≡ Some (sibling_key kind (chars value.now)))) }
 {
     if is_left_out(left_out, child) {
         return false;
     }
-    has_sibling_key(alloc, row, scope, kind, key, value, child_element)
+    has_sibling_key(alloc, row, parent.scope, kind, key, value, child_element)
 }
 
 // The first sibling with this element kind and this value of its key, by its number among all
@@ -156,33 +126,33 @@ fn is_sibling_with_key(
 fn find_child_with_key(
     alloc: Global,
     row: ElementKind,
-    scope: &LinkedScope<'_>,
+    parent: &Parent<'_>,
     kind: ElementKind,
     key: Key,
     value: &str,
-    siblings: &Siblings<'_>,
+    left_out: Option<usize>,
 ) -> Option<usize>
     requires { key_of kind ≡ Some key }
     ensures some_is_marked { IfSome result
-        (λ i. (siblings.now.left_out ≡ Some i → ⊥)
-        × (sibling_key_at row scope.now (child_elements_of siblings.now.parent.now) i
+        (λ i. (left_out ≡ Some i → ⊥)
+        × (sibling_key_at row parent.now.scope.now (child_elements_of parent.now.element.now) i
         ≡ Some (sibling_key kind (chars value.now)))) }
     ensures fits_u64 { IfSome result (λ i. i + 1 < 2 ^ 64) }
-    ensures none_is_marked { result ≡ None → (i : ℕ) → (siblings.now.left_out ≡ Some i → ⊥)
-        → sibling_key_at row scope.now (child_elements_of siblings.now.parent.now) i
+    ensures none_is_marked { result ≡ None → (i : ℕ) → (left_out ≡ Some i → ⊥)
+        → sibling_key_at row parent.now.scope.now (child_elements_of parent.now.element.now) i
         ≡ Some (sibling_key kind (chars value.now)) → ⊥ }
 {
     let mut i: usize = 0;
-    for node in siblings.parent.nodes() {
+    for node in parent.element.nodes() {
         if let Node::Elem(child_element) = node {
             if is_sibling_with_key(
                 alloc,
                 row,
-                scope,
+                parent,
                 kind,
                 key,
                 value,
-                siblings.left_out,
+                left_out,
                 i,
                 child_element,
             ) {
@@ -208,31 +178,18 @@ fn number_among_siblings(left_out: Option<usize>, child: usize) -> usize
 fn find_duplicate(
     alloc: Global,
     row: ElementKind,
-    scope: &LinkedScope<'_>,
-    siblings: &Siblings<'_>,
+    parent: &Parent<'_>,
+    left_out: Option<usize>,
     new: &Element,
 ) -> Option<DuplicateKey>
     ensures some_is_marked { IfSome result
-        (λ duplicate. IsDuplicate
-        (record {
-          kind = row;
-          scope = scope.now;
-          elements =
-              siblings_without siblings.now.left_out (child_elements_of siblings.now.parent.now);
-        })
-        new.now duplicate.child duplicate.key) }
+        (λ duplicate. IsDuplicate (siblings_under row parent.now left_out) new.now duplicate.child
+        duplicate.key) }
     ensures fits_u64 { IfSome result (λ duplicate. duplicate.child + 1 < 2 ^ 64) }
     ensures none_is_marked { result ≡ None
-        → HasNoDuplicate
-        (record {
-          kind = row;
-          scope = scope.now;
-          elements =
-              siblings_without siblings.now.left_out (child_elements_of siblings.now.parent.now);
-        })
-        new.now }
+        → HasNoDuplicate (siblings_under row parent.now left_out) new.now }
 {
-    let Some(kind) = kind_of_child(alloc, row, scope, new) else {
+    let Some(kind) = kind_of_child(alloc, row, parent.scope, new) else {
         return None;
     };
     let Some(key) = key_of(kind) else {
@@ -241,11 +198,11 @@ fn find_duplicate(
     let Some(value) = value_of(key, new.attrs()) else {
         return None;
     };
-    let Some(child) = find_child_with_key(alloc, row, scope, kind, key, value, siblings) else {
+    let Some(child) = find_child_with_key(alloc, row, parent, kind, key, value, left_out) else {
         return None;
     };
     Some(DuplicateKey {
-        child: number_among_siblings(siblings.left_out, child),
+        child: number_among_siblings(left_out, child),
         key,
     })
 }
@@ -297,45 +254,37 @@ fn first_in_new(
     clash_below(alloc, kind, &inside, new, here)
 }
 
-/// The first clash that a new element makes at an insertion point among its siblings, which don't
-/// clash; their parent is at this path.
+/// The first clash that a new element makes at an insertion point among the children of a parent
+/// of this kind, which don't clash, without the one that it replaces.
 pub(crate) fn first_clash_beside(
     alloc: Global,
     row: ElementKind,
-    scope: &LinkedScope<'_>,
-    siblings: &Siblings<'_>,
+    parent: &Parent<'_>,
+    left_out: Option<usize>,
     new: &Element,
     gap: usize,
-    place: &Path,
 ) -> Option<Clash>
-    requires room_left { FitsWithinLevels place.now new.now }
+    requires room_left { FitsWithinLevels parent.now.path.now new.now }
     requires gap_in_range { gap ≤ length
-        (siblings_without siblings.now.left_out (child_elements_of siblings.now.parent.now)) }
+        (siblings_without left_out (child_elements_of parent.now.element.now)) }
     requires no_clash { (r : List ℕ) (key : Key)
-        → RepeatsKeyAt row scope.now
-        (siblings_without siblings.now.left_out (child_elements_of siblings.now.parent.now)) r key
-        → ⊥ }
+        → RepeatsKeyAt row parent.now.scope.now
+        (siblings_without left_out (child_elements_of parent.now.element.now)) r key → ⊥ }
     ensures first_of_clashes { IsFirstInOrder
-        (ClashesBeside
-        (record {
-          kind = row;
-          scope = scope.now;
-          elements =
-              siblings_without siblings.now.left_out (child_elements_of siblings.now.parent.now);
-        })
-        new.now gap) place.now result }
+        (ClashesBeside (siblings_under row parent.now left_out) new.now gap)
+        parent.now.path.now result }
 {
-    let duplicate = find_duplicate(alloc, row, scope, siblings, new);
-    let here = child_path(place, gap);
+    let duplicate = find_duplicate(alloc, row, parent, left_out, new);
+    let here = child_path(parent.path, gap);
     if let Some(key) = key_before(duplicate, gap) {
         return Some(Clash { path: here, key });
     }
-    if let Some(clash) = first_in_new(alloc, row, scope, new, &here) {
+    if let Some(clash) = first_in_new(alloc, row, parent.scope, new, &here) {
         return Some(clash);
     }
     match duplicate {
         Some(duplicate) => Some(Clash {
-            path: child_path(place, duplicate.child + 1),
+            path: child_path(parent.path, duplicate.child + 1),
             key: duplicate.key,
         }),
         None => None,

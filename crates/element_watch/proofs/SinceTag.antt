@@ -21,7 +21,7 @@ use Rattle.element_watch.specs.declared.element_states.ElementState.{ElementStat
 use Rattle.element_watch.specs.declared.element_states.ElementState.TheVariants.{Unchanged, Exists, Missing}
 use Rattle.store_core.specs.DocumentChanges.{find_document, document_id, stored_id}
 use Rattle.store_core.specs.Contents.{StoredDocument, Represents, StoreContents, stored_document}
-use Rattle.store_core.specs.ValidStates.{IsValidDocument, IsSoundDocument, IsSoundDocumentFor, IsValidState}
+use Rattle.store_core.specs.ValidStates.{IsValidHistory, IsSoundDocument, IsSoundDocumentFor, IsValidState}
 use Rattle.store_core.specs.Since.{ReportedChanges, notes_from, since}
 use Rattle.store_core.specs.inner.ChangesSince.{stored_changes_since, changes_since_of}
 use Rattle.store_core.specs.State.{Document, State, Version, is_within_retention, notes, retained_notes, longest_retained_end, versions}
@@ -92,12 +92,12 @@ by_tag d tag ns false e h =
     first : (n m : Note) (ms ks : List Note) → n ∷ ms ≡ m ∷ ks → n ≡ m
     first n m ms ks h = cc
 
-kept_found : (next : ℕ) (id : DocId) (ds : List Document) (d : Document) → AllByRecursion (IsValidDocument next) ds → find (λ x. same_id id x.id) ds ≡ Some d → IsValidDocument next d
+kept_found : (next : ℕ) (id : DocId) (ds : List Document) (d : Document) → AllByRecursion (IsValidHistory next) ds → find (λ x. same_id id x.id) ds ≡ Some d → IsValidHistory next d
 kept_found next id [] d all h = cc
 kept_found next id (x ∷ ds) d all h = by (same_id id x.id) h (kept_found next id ds d all.1)
   where
-    by : (b : Bool) → cond b (Some x) (find (λ y. same_id id y.id) ds) ≡ Some d → (find (λ y. same_id id y.id) ds ≡ Some d → IsValidDocument next d) → IsValidDocument next d
-    by true s f = subst (IsValidDocument next) (same_Some x d s) all.0
+    by : (b : Bool) → cond b (Some x) (find (λ y. same_id id y.id) ds) ≡ Some d → (find (λ y. same_id id y.id) ds ≡ Some d → IsValidHistory next d) → IsValidHistory next d
+    by true s f = subst (IsValidHistory next) (same_Some x d s) all.0
     by false s f = f s
 
 made_of : (o : Option Document) (h : StoredDocument) → option_map stored_document o ≡ Some h → (d : Document) × ((o ≡ Some d) × (stored_document d ≡ h))
@@ -120,7 +120,7 @@ some_and (Some e) P h f = f e refl
 sound_all : (usage : Option Usage) (u : Usage) (vs : List Version) → usage ≡ Some u → AllByRecursion (λ v. IsSoundDocumentFor usage v.tree) vs → AllByRecursion (λ v. IsSoundDocument u v.tree) vs
 sound_all usage u vs is all = subst (λ (x : Option Usage). AllByRecursion (λ v. IsSoundDocumentFor x v.tree) vs) is all
 
-module _ (u : Usage) (selector : Selector) (p : List ℕ) (d : Document) (next tag : ℕ) (ns : List Note) (kept : IsValidDocument next d) (known : usage_of d.id.auid ≡ Some u) (told : ToldSince d tag ns) where
+module _ (u : Usage) (selector : Selector) (p : List ℕ) (d : Document) (next tag : ℕ) (ns : List Note) (kept : IsValidHistory next d) (known : usage_of d.id.auid ≡ Some u) (told : ToldSince d tag ns) where
   -- its records, newest first
   turned : notes_of (versions d) ≡ reverse ns ++ reverse told.front
   turned = sym (reverse-reverse (notes_of (versions d))) ∙ ap reverse told.whole ∙ reverse-append told.front ns

@@ -18,7 +18,7 @@ use Rattle.folder_log.specs.declared.folder_log.FolderLog.{FolderLog}
 pub record LogParts : Type 0 where
   pub folder : FolderMoments
   pub history : History
-  -- the mark of the file, and that of the draft
+  -- the mark of the file, and the mark of the draft
   pub mark : List ℕ
   pub draft_mark : List ℕ
   pub next : ℕ

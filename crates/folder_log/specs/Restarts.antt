@@ -25,9 +25,9 @@ IsFoundInFile file c =
     ((file ≡ []) × (c ≡ no_contents))
     ⊎ ((es : List Entry) × RestoresEntries file es × (contents_of_entries es ≡ Some c))
 
--- After the entries are other bytes than those of the one that was written there, and no more of
--- them, and yet an entry begins in them, with the file's mark and the right checksum. What a crash
--- leaves of a write does that only by chance.
+-- After the entries are not the bytes of the entry that was written there but others, no more in
+-- number, and yet an entry begins in them, with the file's mark and the right checksum. What a
+-- crash leaves of a write does that only by chance.
 pub record HasChanceEntry (es : List Entry) (e : Entry) (file : List ℕ) : Type 0 where
   pub tail : List ℕ
   pub split : file ≡ entries_bytes (mark_of file) es ++ tail

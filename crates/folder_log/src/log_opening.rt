@@ -77,7 +77,6 @@ impl Scanner {
         true
     }
 
-    // A change.
     fn scan_change(&mut self, number: u64, bytes: &[u8]) -> bool
         requires { AgreesWithHistory self.old }
         ensures scans { ScansItem self.old (change number bytes.now) result self.new }
@@ -114,7 +113,6 @@ impl Scanner {
         false
     }
 
-    // An entry.
     fn scan_entry(&mut self, number: u64, content: &[u8]) -> bool
         requires { AgreesWithHistory self.old }
         ensures scans { ScansItem self.old (item_of_content number content.now) result self.new }

@@ -1,4 +1,4 @@
--- What is decided at each place where the reading of an item stands, and what is held then.
+-- What is decided at each place up to which an item was read, and what is held then.
 use Rattle.std.proofs.Common.{◌≡◌, ℕ, ◌+◌, ◌-◌, ◌<◌, ◌≤◌, ◌⊎◌, inl, inr, Bool, true, false, List, [], ◌∷◌, ◌++◌, length, take, drop, map, slice_range, Result, Ok, Err, IfOk, OnErr, refl, sym, ap, subst, ◌∙◌, arith, length-append, length-drop, append_assoc, take-append-drop}
 use Rattle.std.proofs.lemmas.Bool.{cases_eq}
 use Rattle.std.proofs.lemmas.List.{append-nil, drop-drop, length-take-le, take-append-le, drop-append-le, drop_all, take_rest}
@@ -28,12 +28,12 @@ use Rattle.http_wire.proofs.BodyFacts.{goes_on, no_body_ever, other_is_bad, pass
 use Rattle.http_wire.proofs.Fronts.{head_at_front, head_feeds, no_head_in_none}
 use Rattle.http_wire.proofs.ItemLemmas.{asks_in_chunks, asks_plain, follows_at, framed_at, framed_on, lacks, open_at-append, opens_at}
 use Rattle.http_wire.proofs.OneTalk.{same_head}
-use Rattle.http_feed.specs.declared.item_reader.Place.{Place}
-use Rattle.http_feed.specs.declared.item_reader.Place.TheVariants.{Head, Body, Chunks}
-use Rattle.http_feed.specs.declared.item_reader.Step.{Step}
+use Rattle.http_feed.specs.declared.item_reader.ReadPlace.{ReadPlace}
+use Rattle.http_feed.specs.declared.item_reader.ReadPlace.TheVariants.{Head, Body, Chunks}
+use Rattle.http_feed.specs.declared.item_reader.ReadStep.{ReadStep}
 use Rattle.http_feed.specs.Feeds.{IsDecided, IsWaiting}
 use Rattle.http_feed.specs.inner.Places.{IsInBody, IsInChunks, HoldsBytes, IsReachablePlace, HasWholeChunks, AnswersStep, MayAnswerStep}
-use Rattle.http_feed.specs.inner.Buffers.{HeldState, ChunkDataState}
+use Rattle.http_feed.specs.inner.Buffers.{ReadBufferState, ChunkDataState}
 
 -- Items that are no request are first, whatever follows.
 
@@ -262,13 +262,13 @@ module _ (head used : ℕ) (bytes body given : List ℕ) (w : HasWholeChunks hea
 
 -- What is held at a place.
 
-pub placed : (place : Place) (bytes : List ℕ) (d : Decoding) (given : List ℕ) → HoldsBytes place bytes d given → IsReachablePlace place bytes
+pub placed : (place : ReadPlace) (bytes : List ℕ) (d : Decoding) (given : List ℕ) → HoldsBytes place bytes d given → IsReachablePlace place bytes
 placed (Head seen) bytes d given h = (h.0, h.1)
 placed (Body head len) bytes d given h = h.short
 placed (Chunks head) bytes d given h = h.0.inside
 
 -- more bytes are held with those before
-pub holds_more : (place : Place) (bytes more : List ℕ) (d : Decoding) (given : List ℕ) → HoldsBytes place bytes d given → HoldsBytes place (bytes ++ more) d (given ++ more)
+pub holds_more : (place : ReadPlace) (bytes more : List ℕ) (d : Decoding) (given : List ℕ) → HoldsBytes place bytes d given → HoldsBytes place (bytes ++ more) d (given ++ more)
 holds_more (Head seen) bytes more d given h =
     (omega (arith, length-append bytes more, h.0), subst HasNoHead (sym (take-append-le seen bytes more h.0)) h.1, ap (λ (l : List ℕ). l ++ more) h.2)
 holds_more (Body head len) bytes more d given b = record {
@@ -302,19 +302,19 @@ holds_more (Chunks head) bytes more d given (c, going) =
 length_none : (bytes : List ℕ) → bytes ≡ [] → length bytes ≡ 0
 length_none bytes is = ap length is
 
-pub none_given : (place : Place) (bytes : List ℕ) (d : Decoding) (given : List ℕ) → HoldsBytes place bytes d given → bytes ≡ [] → given ≡ []
+pub none_given : (place : ReadPlace) (bytes : List ℕ) (d : Decoding) (given : List ℕ) → HoldsBytes place bytes d given → bytes ≡ [] → given ≡ []
 none_given (Head seen) bytes d given h is = h.2 ∙ is
 none_given (Body head len) bytes d given b is = absurd (omega (arith, some_bytes bytes b.headers b.spans (Length len) b.opens, length_none bytes is))
 none_given (Chunks head) bytes d given (c, going) is =
     absurd (omega (arith, some_bytes (take head bytes) c.headers c.spans Chunked c.opens, length-take-le head bytes c.inside, c.inside, length_none bytes is))
 
-pub none_held : (place : Place) (bytes : List ℕ) (d : Decoding) (given : List ℕ) → HoldsBytes place bytes d given → given ≡ [] → bytes ≡ []
+pub none_held : (place : ReadPlace) (bytes : List ℕ) (d : Decoding) (given : List ℕ) → HoldsBytes place bytes d given → given ≡ [] → bytes ≡ []
 none_held (Head seen) bytes d given h is = sym h.2 ∙ is
 none_held (Body head len) bytes d given b is = sym b.same ∙ is
 none_held (Chunks head) bytes d given (c, going) is = absurd (omega (arith, some_bytes given c.headers c.spans Chunked (chunks_head head bytes d given c), length_none given is))
 
 -- where no bytes are held, the decoder doesn't matter
-pub holds_none : (place : Place) (bytes : List ℕ) (d d' : Decoding) (given : List ℕ) → HoldsBytes place bytes d given → bytes ≡ [] → HoldsBytes place [] d' given
+pub holds_none : (place : ReadPlace) (bytes : List ℕ) (d d' : Decoding) (given : List ℕ) → HoldsBytes place bytes d given → bytes ≡ [] → HoldsBytes place [] d' given
 holds_none (Head seen) bytes d d' given h is = subst (λ (l : List ℕ). HoldsBytes (Head seen) l d' given) is h
 holds_none (Body head len) bytes d d' given b is = absurd (omega (arith, some_bytes bytes b.headers b.spans (Length len) b.opens, length_none bytes is))
 holds_none (Chunks head) bytes d d' given (c, going) is =
@@ -324,13 +324,13 @@ holds_none (Chunks head) bytes d d' given (c, going) is =
 pub holds_next : (bytes : List ℕ) (d : Decoding) → HoldsBytes (Head 0) bytes d bytes
 holds_next bytes d = (omega arith, no_head_in_none, refl)
 
--- For want of memory the reading stands where it stood.
+-- When out of memory the place is the same.
 
-pub or_not : {E : Type 0} (before : ℕ) (given : List ℕ) (place : Place) (result : Result Step E) (old new : HeldState) (d d' : ChunkDataState) → HoldsBytes place old.bytes d.decoding given → IfOk result (λ step. AnswersStep before given step new.bytes d'.decoding)
+pub or_not : {E : Type 0} (before : ℕ) (given : List ℕ) (place : ReadPlace) (result : Result ReadStep E) (old new : ReadBufferState) (d d' : ChunkDataState) → HoldsBytes place old.bytes d.decoding given → IfOk result (λ step. AnswersStep before given step new.bytes d'.decoding)
     → OnErr result ((new ≡ old) × (d' ≡ d)) → MayAnswerStep before given place result new.bytes d'.decoding
 or_not before given place (Ok step) old new d d' holds answers unchanged = answers
 or_not before given place (Err e) old new d d' holds answers unchanged =
-    subst (λ (h : HeldState). HoldsBytes place h.bytes d'.decoding given) (sym unchanged.0)
+    subst (λ (h : ReadBufferState). HoldsBytes place h.bytes d'.decoding given) (sym unchanged.0)
     (subst (λ (x : ChunkDataState). HoldsBytes place old.bytes x.decoding given) (sym unchanged.1) holds)
 
 -- The end of the bytes.

@@ -37,13 +37,13 @@ fresh_feed = record {
 abbrev pub with_bytes : RequestReaderState → List ℕ → RequestReaderState
 with_bytes reader bytes = record reader { held = reader.held ++ bytes }
 
--- how many of so many bytes may be given next: the buffer never holds more than the limit, and a
--- spent feed is given none
+-- how many bytes may be given next of those wanted: the buffer never holds more than the limit,
+-- and a spent feed is given none
 abbrev pub granted_len : FeedState → ℕ → ℕ
 granted_len feed wanted =
     if feed.reader.spent then 0 else min wanted (MAX_HELD_BYTES - feed.buffer.filled)
 
--- there is room for so many bytes; for want of memory nothing changes
+-- there is room for this many bytes; when out of memory nothing changes
 abbrev pub MakesRoom : {E : Type 0} → FeedState → ℕ → Result ℕ E → FeedState → Type 0
 MakesRoom old wanted (Ok count) new =
     (count ≡ granted_len old wanted) × (new.buffer.room ≡ count) × (new.reader ≡ old.reader)
@@ -74,8 +74,8 @@ pub record IsWaiting (held : List ℕ) : Type 0 where
   pub unfinished : HasNoCompleteItem held
   pub head_within : HasNoHead held → length held < MAX_HEAD_BYTES
 
--- What comes of the bytes held: their first item; or none, where none is complete; or want of
--- memory, before anything was decided.
+-- What comes of the bytes held: their first item; or none, where none is complete; or out
+-- of memory, before anything was decided.
 abbrev pub IsNextOf : {E : Type 0} → RequestReaderState → Result (Option Asked) E
     → RequestReaderState → Type 0
 IsNextOf old (Ok (Some asked)) new = ReturnsItem false old asked new

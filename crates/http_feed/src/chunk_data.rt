@@ -160,7 +160,7 @@ impl ChunkData {
     }
 
     // Reads until the state is settled or all bytes are read, and returns how many it read. It
-    // allocates before it reads, so that for want of memory nothing changes.
+    // allocates before it reads, so that nothing changes when out of memory.
     pub fn feed(&mut self, raw: &[u8]) -> Result<usize, NoMemory>
         ensures at_most_len { IfOk result (λ used. used ≤ length raw.now) }
         ensures reads_on { IfOk result

@@ -7,8 +7,8 @@ ghost use Rattle.http_feed.specs.inner.Buffers.{spent_feed};
 ghost use Rattle.http_feed.specs.inner.Places.{LeavesRequests, IsCounted};
 
 use crate::chunk_data::ChunkData;
-use crate::held_bytes::HeldBytes;
-use crate::item_reader::{Place, Step, read_on};
+use crate::item_reader::{ReadPlace, ReadStep, read_on};
+use crate::read_buffer::ReadBuffer;
 use http_wire::Asked;
 use http_wire::reader_parts::MAX_HELD_BYTES;
 use std::alloc::Global;
@@ -22,9 +22,9 @@ use xcap_io::{NoMemory, TrafficLog};
 /// until that returns none, and, once a read found the end of the bytes, `next_at_end`.
 #[derive(Drop)]
 pub struct RequestFeed {
-    held: HeldBytes,
-    data: ChunkData,
-    place: Place,
+    held: ReadBuffer,
+    chunks: ChunkData,
+    place: ReadPlace,
     requests: usize,
     spent: bool,
     // for contracts alone: what was given and not used yet
@@ -47,12 +47,12 @@ impl Model for RequestFeed {
       buffer = record {
         filled = length f.held.bytes;
         room = f.held.room;
-        capacity = f.held.capacity + f.data.capacity;
+        capacity = f.held.capacity + f.chunks.capacity;
       };
     } };
 
     ghost invariant = { λ f.
-        ArePartsOfFeed f.place f.held f.data f.given.history.now.given f.requests f.spent };
+        ArePartsOfFeed f.place f.held f.chunks f.given.history.now.given f.requests f.spent };
 }
 
 impl RequestFeed {
@@ -61,9 +61,9 @@ impl RequestFeed {
         ensures exact { result ≡ fresh_feed }
     {
         RequestFeed {
-            held: HeldBytes::new(alloc),
-            data: ChunkData::new(alloc),
-            place: Place::Head { seen: 0 },
+            held: ReadBuffer::new(alloc),
+            chunks: ChunkData::new(alloc),
+            place: ReadPlace::Head { seen: 0 },
             requests: 0,
             spent: false,
             given: TrafficLog::new(),
@@ -117,17 +117,17 @@ impl RequestFeed {
     {
         if self.held.is_empty() {
             self.held.clear();
-            self.data.clear();
+            self.chunks.clear();
         }
     }
 
-    // Spends the feed after so many requests.
+    // Spends the feed after this many requests.
     fn finish(&mut self, requests: usize)
         ensures exact { self.new ≡ spent_feed requests }
     {
         self.held.clear();
-        self.data.clear();
-        self.place = Place::Head { seen: 0 };
+        self.chunks.clear();
+        self.place = ReadPlace::Head { seen: 0 };
         self.given.record_begin();
         self.requests = requests;
         self.spent = true;
@@ -173,19 +173,19 @@ impl RequestFeed {
         let step = read_on(
             alloc,
             &mut self.held,
-            &mut self.data,
+            &mut self.chunks,
             self.place,
             self.requests,
         )?;
         match step {
-            Step::Open(place) => {
+            ReadStep::Open(place) => {
                 self.place = place;
                 self.release();
                 Ok(None)
             }
-            Step::Item(asked) => {
-                self.data.clear();
-                self.place = Place::Head { seen: 0 };
+            ReadStep::Item(asked) => {
+                self.chunks.clear();
+                self.place = ReadPlace::Head { seen: 0 };
                 self.given.record_begin();
                 self.given.record_read(self.held.bytes());
                 self.count(&asked);

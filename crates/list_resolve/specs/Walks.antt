@@ -28,30 +28,30 @@ pub data Item : Type 0 where
 -- any other element nothing
 abbrev pub kind_items : (Reference → List Item) → List ℕ → ElementKind → Tree → List Item
     → List Item
-kind_items behind root Entry e items =
+kind_items resolve root Entry e items =
     option_map_or (λ uri. address uri ∷ []) (value_of Uri e.attrs) []
-kind_items behind root EntryList e items = items
-kind_items behind root kind e items =
-    option_map_or (λ r. mark ∷ behind r) (reference_of root kind e.attrs e.content) []
+kind_items resolve root EntryList e items = items
+kind_items resolve root kind e items =
+    option_map_or (λ r. mark ∷ resolve r) (reference_of root kind e.attrs e.content) []
 
 -- the walk of the content of an element of this kind, in the scope inside it: the items of its
 -- children that have a kind, in order
 abbrev pub content_items : (Reference → List Item) → List ℕ → ElementKind → Scope → Content
     → List Item
-content_items behind root row c (last t) = []
-content_items behind root row c (comment_node t x rest) = content_items behind root row c rest
-content_items behind root row c (more t n ds ats k rest) =
+content_items resolve root row c (last t) = []
+content_items resolve root row c (comment_node t x rest) = content_items resolve root row c rest
+content_items resolve root row c (more t n ds ats k rest) =
     option_map_or (λ kind.
-    kind_items behind root kind (tree_of n ds ats k)
-    (content_items behind root EntryList (c ++ ds ∷ []) k))
+    kind_items resolve root kind (tree_of n ds ats k)
+    (content_items resolve root EntryList (c ++ ds ∷ []) k))
     (kind_of row (c ++ ds ∷ []) n) []
-    ++ content_items behind root row c rest
+    ++ content_items resolve root row c rest
 
 -- what an element of an element kind gives
 abbrev pub scoped_element_items : (Reference → List Item) → List ℕ → ScopedElement → List Item
-scoped_element_items behind root s =
-    kind_items behind root s.kind s.element
-    (content_items behind root EntryList s.scope s.element.content)
+scoped_element_items resolve root s =
+    kind_items resolve root s.kind s.element
+    (content_items resolve root EntryList s.scope s.element.content)
 
 -- what comes after a mark: what the element that the reference leads to gives, unless it is
 -- already on the chain of elements that the walk is in, to which n more may be added

@@ -159,7 +159,7 @@ pub(crate) fn resolve_reference<'a>(
         ≡ resolve_in_context (context_view ground.now) reference.now) }
     ensures within_levels { IfOk result
         (λ found. IfSome found (λ l. height l.scoped_element.element.now ≤ MAX_LEVELS)) }
-    ensures lead_is_there { IfOk result
+    ensures reference_exists { IfOk result
         (λ found. IfSome found
         (λ l. scoped_element_at (context_view ground.now) l.place
         ≡ Some (scoped_element_view l.scoped_element))) }

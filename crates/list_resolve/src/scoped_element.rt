@@ -20,7 +20,7 @@ pub(crate) struct ScopedElement<'a> {
 impl<'a> ScopedElement<'a> {
     /// The root of a document whose root is of this kind. Does not allocate.
     pub(crate) fn root(kind: ElementKind, root: &'a Element) -> ScopedElement<'a>
-        ensures spot_meant { scoped_element_view result ≡ root_element kind root.now }
+        ensures scoped_meant { scoped_element_view result ≡ root_element kind root.now }
         ensures one_scope_more { length result.scope ≡ 1 }
     {
         ScopedElement {
@@ -33,10 +33,10 @@ impl<'a> ScopedElement<'a> {
     /// A child, if it has an element kind. Does not allocate.
     pub(crate) fn enter_child(&self, child_element: &'a Element) -> Option<ScopedElement<'a>>
         requires { length self.now.scope < SCOPE_LIMIT }
-        ensures spot_meant { option_map scoped_element_view result
+        ensures scoped_meant { option_map scoped_element_view result
             ≡ scoped_child (scoped_element_view self.now) child_element.now }
         ensures one_scope_more { IfSome result (λ s. length s.scope ≡ length self.now.scope + 1) }
-        ensures spot_of_child { IfSome result (λ s. s.element.now ≡ child_element.now) }
+        ensures scoped_of_child { IfSome result (λ s. s.element.now ≡ child_element.now) }
     {
         let scope = self.scope.with(child_element.decls());
         let kind = kind_of(
@@ -54,7 +54,7 @@ impl<'a> ScopedElement<'a> {
     /// The child of this number, if there is one and it has an element kind. Does not allocate.
     pub(crate) fn child_element(&self, number: usize) -> Option<ScopedElement<'a>>
         requires { length self.now.scope < SCOPE_LIMIT }
-        ensures spot_meant { option_map scoped_element_view result
+        ensures scoped_meant { option_map scoped_element_view result
             ≡ option_and_then (scoped_child (scoped_element_view self.now))
             (slice_get (child_elements_of self.now.element.now) number) }
         ensures one_scope_more { IfSome result (λ s. length s.scope ≡ length self.now.scope + 1) }
@@ -69,7 +69,7 @@ impl<'a> ScopedElement<'a> {
 /// The element at a path of a document of lists, if all on the path have element kinds. Does not
 /// allocate.
 pub(crate) fn list_element<'a>(root: &'a Element, path: &Path) -> Option<ScopedElement<'a>>
-    ensures spot_meant { option_map scoped_element_view result ≡ list_element root.now path.now }
+    ensures scoped_meant { option_map scoped_element_view result ≡ list_element root.now path.now }
     ensures is_no_higher { IfSome result (λ s. height s.element.now ≤ height root.now) }
 {
     let mut here = ScopedElement::root(ElementKind::ResourceLists, root);

@@ -18,7 +18,7 @@ pub(crate) struct VisitChain<'a> {
 enum Link<'a> {
     End,
     // This place, and the chain before it.
-    Behind(&'a Place, &'a VisitChain<'a>),
+    After(&'a Place, &'a VisitChain<'a>),
 }
 
 impl<'a> Model for VisitChain<'a> {
@@ -54,7 +54,7 @@ impl<'a> VisitChain<'a> {
         ensures adds_place { result ≡ place.now ∷ self.now }
     {
         VisitChain {
-            link: Link::Behind(place, self),
+            link: Link::After(place, self),
         }
     }
 
@@ -64,7 +64,7 @@ impl<'a> VisitChain<'a> {
     {
         match &self.link {
             Link::End => false,
-            Link::Behind(other, outer) => place.same(other) || outer.has(place),
+            Link::After(other, outer) => place.same(other) || outer.has(place),
         }
     }
 }

@@ -45,7 +45,7 @@ impl MemFolder {
     }
 
     /// The bytes of the file that every crash leaves.
-    pub fn synced(&self) -> &[u8] {
+    pub fn synced_bytes(&self) -> &[u8] {
         &self.synced
     }
 
@@ -55,7 +55,7 @@ impl MemFolder {
     }
 
     /// The file that a crash may leave in place of this one.
-    pub fn renamed(&self) -> Option<&Vec<u8>> {
+    pub fn renamed_file(&self) -> Option<&Vec<u8>> {
         self.renamed.as_ref()
     }
 

@@ -15,7 +15,7 @@ use Rattle.xml_names.specs.declared.names.Decl.{Decl}
 use Rattle.xml_names.specs.declared.names.Name.{Name}
 use Rattle.xml_tree.specs.declared.tree.Node.{Node}
 use Rattle.xml_tree.proofs.PathLemmas.{put_over-made}
-use Rattle.patch_rules.specs.PatchOperations.{OperationError, Prefix, RootTouched, WrongNodes, NoSpace, Position, Behind, Prepend, Before, After, AtElement, AtAttr, AtText, new_attr_result, attr_of, cut_element, require_some, has_only_comments, is_below_root, check_tree, names_agree, is_not_beside_root, put_nodes_at, put_result, remove_result, replace_result, set_first_value, scope_of_put, sole_element, has_requested_space, require, content_value, with_attrs, is_within_depth, has_attr_named}
+use Rattle.patch_rules.specs.PatchOperations.{OperationError, Prefix, RootTouched, WrongNodes, NoSpace, Position, Append, Prepend, Before, After, AtElement, AtAttr, AtText, new_attr_result, attr_of, cut_element, require_some, has_only_comments, is_below_root, check_tree, names_agree, is_not_beside_root, put_nodes_at, put_result, remove_result, replace_result, set_first_value, scope_of_put, sole_element, has_requested_space, require, content_value, with_attrs, is_within_depth, has_attr_named}
 use Rattle.patch_apply.specs.inner.ActionResults.{insert_result, insertion_place, insertion_path, drop_attr_result, set_attr_result}
 
 -- ---- the new tree
@@ -55,13 +55,13 @@ module _ (c : List (List Decl)) (name : Name) (p : List ℕ) (content : Content)
 -- ---- content is put among nodes
 
 pub put_site : (position : Position) (p : List ℕ) (ns : List Node) (t : Tree) → put_nodes_at position p ns t ≡ change_at (insertion_path position p) (exchange_nodes (insertion_place position p t) (insertion_place position p t) ns) t
-put_site Behind p ns t = refl
+put_site Append p ns t = refl
 put_site Prepend p ns t = refl
 put_site Before p ns t = refl
 put_site After p ns t = refl
 
 pub put_scope : (position : Position) (p : List ℕ) (t : Tree) → is_not_beside_root position p ≡ true → scope_of_put position p t ≡ scope_at (insertion_path position p) t
-put_scope Behind p t off = refl
+put_scope Append p t off = refl
 put_scope Prepend p t off = refl
 put_scope Before [] t off = absurd (cc)
 put_scope Before (n ∷ p) t off = refl

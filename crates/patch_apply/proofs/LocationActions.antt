@@ -8,7 +8,7 @@ use Rattle.xml_names.specs.declared.names.Decl.{Decl}
 use Rattle.patch_rules.specs.PatchOperations as words
 use Rattle.patch_rules.specs.PatchOperations.{location_path, remove_result, replace_result}
 use Rattle.patch_apply.specs.inner.Results.{IsEditResult}
-use Rattle.patch_apply.specs.inner.LocationViews.{IsSpot, LocationExists, path_of_location}
+use Rattle.patch_apply.specs.inner.LocationViews.{IsSameLocation, LocationExists, path_of_location}
 use Rattle.patch_apply.specs.inner.ActionResults.{drop_attr_result, set_attr_result}
 use Rattle.patch_parse.specs.declared.operation_error.OperationError.{OperationError}
 use Rattle.patch_apply.specs.declared.locations.Location.{Location}
@@ -23,7 +23,7 @@ spot_there t (AtElement p) h = h
 spot_there t (AtAttr p i) h = some_if (at p t) _ h
 spot_there t (AtText p i) h = some_if (at p t) _ h
 
-pub path_same : (t : Tree) (s : Location) (w : words.Location) → IsSpot t s w → path_of_location s ≡ location_path w
+pub path_same : (t : Tree) (s : Location) (w : words.Location) → IsSameLocation t s w → path_of_location s ≡ location_path w
 path_same t (AtElement p) (words.AtElement q) is = is
 path_same t (AtElement p) (words.AtAttr q f) is = absurd is
 path_same t (AtElement p) (words.AtText q j) is = absurd is
@@ -35,36 +35,36 @@ path_same t (AtText p i) (words.AtAttr q f) is = absurd is
 path_same t (AtText p i) (words.AtText q j) is = is.0
 
 module _ (c : List (List Decl)) (p : List ℕ) (content : Content) (t new : Tree) (r : Result (Unit {0}) (ReadError OperationError)) where
-  pub replace_element_at : ResultSatisfies (IsEditResult (replace_result c (words.AtElement p) content t) new) r → (w : words.Location) → IsSpot t (AtElement p) w → ResultSatisfies (IsEditResult (replace_result c w content t) new) r
+  pub replace_element_at : ResultSatisfies (IsEditResult (replace_result c (words.AtElement p) content t) new) r → (w : words.Location) → IsSameLocation t (AtElement p) w → ResultSatisfies (IsEditResult (replace_result c w content t) new) r
   replace_element_at h (words.AtElement q) is = subst (λ (x : List ℕ). ResultSatisfies (IsEditResult (replace_result c (words.AtElement x) content t) new) r) is h
   replace_element_at h (words.AtAttr q f) is = absurd is
   replace_element_at h (words.AtText q j) is = absurd is
 
-  pub replace_attr_at : (i : ℕ) → ResultSatisfies (IsEditResult (set_attr_result p i content t) new) r → (w : words.Location) → IsSpot t (AtAttr p i) w → ResultSatisfies (IsEditResult (replace_result c w content t) new) r
+  pub replace_attr_at : (i : ℕ) → ResultSatisfies (IsEditResult (set_attr_result p i content t) new) r → (w : words.Location) → IsSameLocation t (AtAttr p i) w → ResultSatisfies (IsEditResult (replace_result c w content t) new) r
   replace_attr_at i h (words.AtElement q) is = absurd is
   replace_attr_at i h (words.AtAttr q f) is =
       let x = some_there (at p t) (λ e. position f e.attrs ≡ Some i) is.1 in edits_same _ _ new r (sym (replaced_by_number c p q f i content t x.0 is.0 x.1 x.2)) h
   replace_attr_at i h (words.AtText q j) is = absurd is
 
-  pub replace_text_at : (i : ℕ) → ResultSatisfies (IsEditResult (replace_result c (words.AtText p i) content t) new) r → (w : words.Location) → IsSpot t (AtText p i) w → ResultSatisfies (IsEditResult (replace_result c w content t) new) r
+  pub replace_text_at : (i : ℕ) → ResultSatisfies (IsEditResult (replace_result c (words.AtText p i) content t) new) r → (w : words.Location) → IsSameLocation t (AtText p i) w → ResultSatisfies (IsEditResult (replace_result c w content t) new) r
   replace_text_at i h (words.AtElement q) is = absurd is
   replace_text_at i h (words.AtAttr q f) is = absurd is
   replace_text_at i h (words.AtText q j) is =
       subst (λ (x : List ℕ). ResultSatisfies (IsEditResult (replace_result c (words.AtText x j) content t) new) r) is.0 (subst (λ (n : ℕ). ResultSatisfies (IsEditResult (replace_result c (words.AtText p n) content t) new) r) is.1 h)
 
 module _ (before after : Bool) (p : List ℕ) (content : Content) (t new : Tree) (r : Result (Unit {0}) (ReadError OperationError)) where
-  pub remove_element_at : ResultSatisfies (IsEditResult (remove_result before after (words.AtElement p) content t) new) r → (w : words.Location) → IsSpot t (AtElement p) w → ResultSatisfies (IsEditResult (remove_result before after w content t) new) r
+  pub remove_element_at : ResultSatisfies (IsEditResult (remove_result before after (words.AtElement p) content t) new) r → (w : words.Location) → IsSameLocation t (AtElement p) w → ResultSatisfies (IsEditResult (remove_result before after w content t) new) r
   remove_element_at h (words.AtElement q) is = subst (λ (x : List ℕ). ResultSatisfies (IsEditResult (remove_result before after (words.AtElement x) content t) new) r) is h
   remove_element_at h (words.AtAttr q f) is = absurd is
   remove_element_at h (words.AtText q j) is = absurd is
 
-  pub remove_attr_at : (i : ℕ) → ResultSatisfies (IsEditResult (drop_attr_result p i content t) new) r → (w : words.Location) → IsSpot t (AtAttr p i) w → ResultSatisfies (IsEditResult (remove_result before after w content t) new) r
+  pub remove_attr_at : (i : ℕ) → ResultSatisfies (IsEditResult (drop_attr_result p i content t) new) r → (w : words.Location) → IsSameLocation t (AtAttr p i) w → ResultSatisfies (IsEditResult (remove_result before after w content t) new) r
   remove_attr_at i h (words.AtElement q) is = absurd is
   remove_attr_at i h (words.AtAttr q f) is =
       let x = some_there (at p t) (λ e. position f e.attrs ≡ Some i) is.1 in edits_same _ _ new r (sym (removed_by_number [] p q f i content t x.0 is.0 x.1 x.2 before after)) h
   remove_attr_at i h (words.AtText q j) is = absurd is
 
-  pub remove_text_at : (i : ℕ) → ResultSatisfies (IsEditResult (remove_result before after (words.AtText p i) content t) new) r → (w : words.Location) → IsSpot t (AtText p i) w → ResultSatisfies (IsEditResult (remove_result before after w content t) new) r
+  pub remove_text_at : (i : ℕ) → ResultSatisfies (IsEditResult (remove_result before after (words.AtText p i) content t) new) r → (w : words.Location) → IsSameLocation t (AtText p i) w → ResultSatisfies (IsEditResult (remove_result before after w content t) new) r
   remove_text_at i h (words.AtElement q) is = absurd is
   remove_text_at i h (words.AtAttr q f) is = absurd is
   remove_text_at i h (words.AtText q j) is =

@@ -43,7 +43,7 @@ fn parts_decode_to(alloc: Global, texts: &[&str], address: &[u8]) -> Result<bool
     Ok(rest.is_none())
 }
 
-// Whether an address is the one of a document under `global`.
+// Whether an address is a document's under `global`.
 fn is_global_address<'a>(
     alloc: Global,
     auid: &'a str,
@@ -57,7 +57,7 @@ fn is_global_address<'a>(
     parts_decode_to(alloc, &[auid, "global", name], address)
 }
 
-// Whether an address is the one of a document under `users`.
+// Whether an address is a document's under `users`.
 fn is_user_address<'a>(
     alloc: Global,
     auid: &'a str,

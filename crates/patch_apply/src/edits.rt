@@ -89,7 +89,7 @@ pub(crate) fn is_not_beside_root(position: Position, path: &Path) -> bool
     ensures exact { result ≡ is_not_beside_root (position_view position) path.now }
 {
     match position {
-        Position::Behind => true,
+        Position::Append => true,
         Position::Prepend => true,
         Position::Before => is_below_root(path),
         Position::After => is_below_root(path),
@@ -99,14 +99,14 @@ pub(crate) fn is_not_beside_root(position: Position, path: &Path) -> bool
 /// The place of content that is put at a position relative to an element.
 pub(crate) fn insertion_place(position: Position, tree: &Element, path: Path) -> InsertPosition
     requires place_exists { IsSome (at path tree.now) }
-    requires is_not_beside_root { is_not_beside_root (position_view position) path ≡ true }
+    requires not_beside_root { is_not_beside_root (position_view position) path ≡ true }
     ensures insert_path { result.path ≡ insertion_path (position_view position) path }
     ensures insert_place { result.place ≡ insertion_place (position_view position) path tree.now }
     ensures within_nodes { IsSomeAnd (at result.path tree.now)
         (λ e. result.place ≤ length (nodes_of e.content)) }
 {
     match position {
-        Position::Behind => {
+        Position::Append => {
             let place = node_count(tree, &path);
             InsertPosition { path, place }
         }

@@ -46,7 +46,7 @@ fn attribute_at(
     local: &Text,
 ) -> Option<Location>
     requires { at path tree.now ≡ Some element.now }
-    ensures selected_spot { LocatesAs tree.now
+    ensures selected_location { LocatesAs tree.now
         (locate_end (ends.Attribute uri.now local.now) (scope_at path tree.now) path element.now)
         result }
 {
@@ -64,7 +64,7 @@ fn locate_end(
     element: &Element,
 ) -> Option<Location>
     requires { at path tree.now ≡ Some element.now }
-    ensures selected_spot { LocatesAs tree.now
+    ensures selected_location { LocatesAs tree.now
         (locate_end end.now (scope_at path tree.now) path element.now) result }
 {
     match end {
@@ -82,7 +82,7 @@ fn locate_end(
 /// The location that a selector selects in a tree.
 pub(crate) fn locate(alloc: Global, selector: &PatchSelector, tree: &Element) -> Option<Location>
     requires { height tree.now ≤ MAX_LEVELS }
-    ensures selected_spot { LocatesAs tree.now (locate selector.now tree.now) result }
+    ensures selected_location { LocatesAs tree.now (locate selector.now tree.now) result }
 {
     let path = select_steps(alloc, tree, selector.steps.as_slice())?;
     let element = element_at(tree, &path)?;

@@ -9,7 +9,7 @@ ghost use Rattle.patch_rules.specs.PatchOperations.{locate_and_apply};
 ghost use Rattle.patch_rules.specs.readers.AppliedOperations.{apply_operation, apply_selected};
 ghost use Rattle.patch_rules.specs.PatchOperations as words;
 ghost use Rattle.patch_apply.specs.inner.Results.{IsEditResult};
-ghost use Rattle.patch_apply.specs.inner.LocationViews.{IsSpot, LocationExists};
+ghost use Rattle.patch_apply.specs.inner.LocationViews.{IsSameLocation, LocationExists};
 ghost use Rattle.patch_parse.specs.Views.{action_view};
 
 use crate::attributes::{add_attr, remove_attr, remove_text, replace_attr, replace_text};
@@ -33,7 +33,7 @@ fn replace_at_location(
 ) -> Result<(), ReadError<OperationError>>
     requires place_exists { LocationExists tree.old location }
     requires height_bounded { height tree.old ≤ MAX_LEVELS }
-    ensures as_specified { (w : words.Location) → IsSpot tree.old location w
+    ensures as_specified { (w : words.Location) → IsSameLocation tree.old location w
         → ResultSatisfies
         (IsEditResult (replace_result here.now w operation.now.content tree.old) tree.new)
         result }
@@ -56,7 +56,7 @@ fn remove_at_location(
 ) -> Result<(), ReadError<OperationError>>
     requires place_exists { LocationExists tree.old location }
     requires height_bounded { height tree.old ≤ MAX_LEVELS }
-    ensures as_specified { (w : words.Location) → IsSpot tree.old location w
+    ensures as_specified { (w : words.Location) → IsSameLocation tree.old location w
         → ResultSatisfies
         (IsEditResult (remove_result before after w operation.now.content tree.old) tree.new)
         result }
@@ -79,7 +79,7 @@ fn apply_action(
 ) -> Result<(), ReadError<OperationError>>
     requires place_exists { LocationExists tree.old location }
     requires height_bounded { height tree.old ≤ MAX_LEVELS }
-    ensures as_specified { (w : words.Location) → IsSpot tree.old location w
+    ensures as_specified { (w : words.Location) → IsSameLocation tree.old location w
         → ResultSatisfies
         (IsEditResult
         (words.apply_action here.now (action_view task) w operation.now.content tree.old)

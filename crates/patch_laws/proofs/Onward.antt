@@ -25,7 +25,7 @@ use Rattle.tree_text.proofs.PrintedValues.{both as parts}
 use Rattle.node_select.specs.Names.{prefix_uri}
 use Rattle.patch_rules.specs.PatchOperations as words
 use Rattle.patch_rules.proofs.NameCuts.{cut_from_front}
-use Rattle.patch_rules.specs.PatchOperations.{Position, Behind, Prepend, Before, After, Location, AtElement, AtAttr, AtText, PatchAction, OperationError, new_attr_result, attr_of, parse_qname, apply_action, require_some, is_type_prefix_bound, check_tree, names_agree, reject_xmlns, is_not_beside_root, location_path, put_nodes_at, put_result, remove_result, replace_result, set_first_value, scope_of_put, sole_element, require, parse_attr_name, content_value, with_attrs, prefixed_name, is_within_depth}
+use Rattle.patch_rules.specs.PatchOperations.{Position, Append, Prepend, Before, After, Location, AtElement, AtAttr, AtText, PatchAction, OperationError, new_attr_result, attr_of, parse_qname, apply_action, require_some, is_type_prefix_bound, check_tree, names_agree, reject_xmlns, is_not_beside_root, location_path, put_nodes_at, put_result, remove_result, replace_result, set_first_value, scope_of_put, sole_element, require, parse_attr_name, content_value, with_attrs, prefixed_name, is_within_depth}
 use Rattle.patch_rules.specs.inner.QNames.{cut_qname_from}
 use Rattle.patch_laws.specs.Premises.{IsReplicaTree}
 use Rattle.patch_laws.proofs.Attributes.{not_xmlns, same_expanded-true}
@@ -153,7 +153,7 @@ text_proper c d (x ∷ v) h = (h, tt)
 -- ---- nodes
 
 put_proper : (c : List (List Decl)) (pos : Position) (p : List ℕ) (k : Content) (t : Tree) → is_not_beside_root pos p ≡ true → IsProperContent (scope_of_put pos p t) k → IsProperTree [] t → IsProperTree [] (put_nodes_at pos p (nodes_of k) t)
-put_proper c Behind p k t off h g = with-nodes IsProperPart [] p (length (words.nodes_at p t)) (length (words.nodes_at p t)) (nodes_of k) t (nodes_proper (scope_at p t) k h) g
+put_proper c Append p k t off h g = with-nodes IsProperPart [] p (length (words.nodes_at p t)) (length (words.nodes_at p t)) (nodes_of k) t (nodes_proper (scope_at p t) k h) g
 put_proper c Prepend p k t off h g = with-nodes IsProperPart [] p 0 0 (nodes_of k) t (nodes_proper (scope_at p t) k h) g
 put_proper c Before [] k t off h g = cc
 put_proper c Before (n ∷ p) k t off h g = with-nodes IsProperPart [] (parent_path (n ∷ p)) (words.index_in_parent (n ∷ p) t) (words.index_in_parent (n ∷ p) t) (nodes_of k) t (nodes_proper (scope_at (parent_path (n ∷ p)) t) k h) g

@@ -17,7 +17,7 @@ error_view wrongs.WrongNodes = words.WrongNodes
 error_view wrongs.NoSpace = words.NoSpace
 
 abbrev pub position_view : Position → words.Position
-position_view positions.Behind = words.Behind
+position_view positions.Append = words.Append
 position_view positions.Prepend = words.Prepend
 position_view positions.Before = words.Before
 position_view positions.After = words.After

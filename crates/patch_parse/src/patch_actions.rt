@@ -20,7 +20,7 @@ use xml_tokens::{chars_of_text, name_part};
 #[derive(Clone, Copy, Drop)]
 pub enum Position {
     /// In the element, after its other nodes.
-    Behind,
+    Append,
     /// In the element, before its other nodes.
     Prepend,
     /// Before the element.
@@ -184,7 +184,7 @@ fn add_action(
         ≡ add_action (option_copied pos.entry) (option_copied name.entry)) }
 {
     match (pos, name) {
-        (None, None) => Ok(Some(PatchAction::Put(Position::Behind))),
+        (None, None) => Ok(Some(PatchAction::Put(Position::Append))),
         (Some(pos), None) => match read_position(pos) {
             None => Ok(None),
             Some(position) => Ok(Some(PatchAction::Put(position))),

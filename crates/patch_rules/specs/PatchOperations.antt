@@ -79,7 +79,7 @@ is_known_attribute a =
 
 -- where an `add` puts its content
 pub data Position : Type 0 where
-  Behind : Position
+  Append : Position
   Prepend : Position
   Before : Position
   After : Position
@@ -135,7 +135,7 @@ pub data PatchAction : Type 0 where
 
 -- an `add`, by `pos` and `type`, of which at most one is there
 abbrev pub add_action : Option (List ℕ) → Option (List ℕ) → Option PatchAction
-add_action None None = Some (Put Behind)
+add_action None None = Some (Put Append)
 add_action (Some pos) None = option_map Put (parse_position pos)
 add_action None (Some type) = option_map NewAttr (parse_attr_name type)
 add_action (Some pos) (Some type) = None
@@ -250,7 +250,7 @@ abbrev pub cut_nodes : List ℕ → ℕ → ℕ → Tree → Tree
 cut_nodes p i j = change_at p (exchange_nodes i j [])
 
 abbrev pub put_nodes_at : Position → List ℕ → List Node → Tree → Tree
-put_nodes_at Behind p ns t = put_nodes p (length (nodes_at p t)) ns t
+put_nodes_at Append p ns t = put_nodes p (length (nodes_at p t)) ns t
 put_nodes_at Prepend p ns t = put_nodes p 0 ns t
 put_nodes_at Before p ns t = put_nodes (parent_path p) (index_in_parent p t) ns t
 put_nodes_at After p ns t = put_nodes (parent_path p) (suc (index_in_parent p t)) ns t
@@ -304,7 +304,7 @@ names_agree c d (comment_node t x rest) = names_agree c d rest
 
 -- the scope of the place where content goes
 abbrev pub scope_of_put : Position → List ℕ → Tree → List (List Decl)
-scope_of_put Behind p t = scope_at p t
+scope_of_put Append p t = scope_at p t
 scope_of_put Prepend p t = scope_at p t
 scope_of_put Before p t = scope_around p t
 scope_of_put After p t = scope_around p t

@@ -115,7 +115,7 @@ impl<N: Net + Clock + Drop> Sockets for MioSockets<N> {
         }
     }
 
-    fn found(&self) -> &[Readiness] {
+    fn readiness(&self) -> &[Readiness] {
         self.found.as_slice()
     }
 

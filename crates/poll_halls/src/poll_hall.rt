@@ -55,7 +55,6 @@ fn free_places<T: Drop>(alloc: Global, places: usize) -> Result<Vec<Option<T>>, 
     Ok(made)
 }
 
-// Frees a place.
 fn free_place<T: Drop>(places: &mut Vec<Option<T>>, place: usize)
     ensures frees { places.new.items ≡ slice_set places.old.items place None }
 {
@@ -197,7 +196,7 @@ impl<E: Sockets + Drop> PollHall<E> {
         self.sockets.poll(longest)?;
         self.times.now = self.sockets.now();
         end_deferrals(&mut self.slots);
-        if record_all(&mut self.slots, self.sockets.found()) {
+        if record_all(&mut self.slots, self.sockets.readiness()) {
             self.knocks = true;
         }
         Ok(())
@@ -215,7 +214,6 @@ impl<E: Sockets + Drop> PollHall<E> {
         find_late(&self.numbers, &self.slots, &self.times)
     }
 
-    // The next event.
     fn next_event(&mut self, takes_more: bool) -> Result<Event, Failed>
         ensures held { MayNameConnection self.old.numbers.items takes_more result }
         ensures same_numbers { self.new.numbers.items ≡ self.old.numbers.items }

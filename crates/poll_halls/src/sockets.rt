@@ -23,7 +23,7 @@ pub trait Sockets {
     fn poll(&mut self, longest: Duration) -> Result<(), Failed>;
 
     /// What the last poll found.
-    fn found(&self) -> &[Readiness];
+    fn readiness(&self) -> &[Readiness];
 
     /// The next connection, whose stream gets this place. None where none is there.
     fn accept(&mut self, place: usize) -> Result<Option<Self::Stream>, Failed>;

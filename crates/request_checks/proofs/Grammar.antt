@@ -5,12 +5,12 @@ use Rattle.std.specs.Option.{option_map_or, option_to_list, IfSome}
 use Rattle.std.proofs.lemmas.Bool.Decides.{nat_tests}
 use Rattle.request_checks.specs.declared.entity_tags.EntityTag.{EntityTag}
 use Rattle.request_checks.specs.Tags.{AllBytesPass, IsListPart, SpellsTags, tag_text, join_with_commas, is_tag_byte, ListPart as Part, is_ows_byte as is_blank}
-use Rattle.request_checks.specs.readers.Fields.{ListState, Before, Letter, Slash, Inside, Behind, opaque_front, tags_from, with_tags, entity_tag as tag_of}
+use Rattle.request_checks.specs.readers.Fields.{ListState, Before, Letter, Slash, Inside, AfterTag, opaque_front, tags_from, with_tags, entity_tag as tag_of}
 use Rattle.request_checks.proofs.Fronts.{before-blanks, behind-blanks, inside-after_closing_quote, front-after_closing_quote}
 
 -- a part as it is written
 abbrev part_text : Part → List ℕ
-part_text p = p.before ++ (option_map_or tag_text p.tag [] ++ p.behind)
+part_text p = p.before ++ (option_map_or tag_text p.tag [] ++ p.after)
 
 -- parts, a comma before each
 abbrev rest_text : List Part → List ℕ
@@ -18,7 +18,7 @@ rest_text ps = flat_map (λ t. 44 ∷ t) (map part_text ps)
 
 -- ---- what is spelled is read
 
-rest-both_conditions : (ps : List Part) → tags_from Before (rest_text ps) ≡ tags_from Behind (rest_text ps)
+rest-both_conditions : (ps : List Part) → tags_from Before (rest_text ps) ≡ tags_from AfterTag (rest_text ps)
 rest-both_conditions [] = refl
 rest-both_conditions (p ∷ ps) = refl
 
@@ -26,7 +26,7 @@ with-none : (o : Option (List EntityTag)) → with_tags [] o ≡ o
 with-none None = refl
 with-none (Some ts) = refl
 
-tag-read : (weak : Bool) (o s : List ℕ) → AllBytesPass is_tag_byte o → tags_from Before (tag_text (tag_of weak o) ++ s) ≡ with_tags (tag_of weak o ∷ []) (tags_from Behind s)
+tag-read : (weak : Bool) (o s : List ℕ) → AllBytesPass is_tag_byte o → tags_from Before (tag_text (tag_of weak o) ++ s) ≡ with_tags (tag_of weak o ∷ []) (tags_from AfterTag s)
 tag-read true o s h =
     ap (λ r. with_tags (tag_of true (opaque_front r) ∷ []) (tags_from Inside r)) (append_assoc o (34 ∷ []) s)
     ∙ ap (λ q. with_tags (tag_of true q ∷ []) (tags_from Inside (o ++ 34 ∷ s))) (front-after_closing_quote o s h)
@@ -36,13 +36,13 @@ tag-read false o s h =
     ∙ ap (λ q. with_tags (tag_of false q ∷ []) (tags_from Inside (o ++ 34 ∷ s))) (front-after_closing_quote o s h)
     ∙ ap (λ m. with_tags (tag_of false o ∷ []) m) (inside-after_closing_quote o s h)
 
-part-read : (before : List ℕ) (tag : Option EntityTag) (behind : List ℕ) (ps : List Part) → AllBytesPass is_blank before → IfSome tag (λ t. AllBytesPass is_tag_byte t.opaque) → AllBytesPass is_blank behind → tags_from Before ((before ++ (option_map_or tag_text tag [] ++ behind)) ++ rest_text ps) ≡ with_tags (option_to_list tag) (tags_from Behind (rest_text ps))
+part-read : (before : List ℕ) (tag : Option EntityTag) (behind : List ℕ) (ps : List Part) → AllBytesPass is_blank before → IfSome tag (λ t. AllBytesPass is_tag_byte t.opaque) → AllBytesPass is_blank behind → tags_from Before ((before ++ (option_map_or tag_text tag [] ++ behind)) ++ rest_text ps) ≡ with_tags (option_to_list tag) (tags_from AfterTag (rest_text ps))
 part-read before None behind ps a t b =
     ap (λ s. tags_from Before s) (append_assoc before behind (rest_text ps))
     ∙ before-blanks before (behind ++ rest_text ps) a
     ∙ before-blanks behind (rest_text ps) b
     ∙ rest-both_conditions ps
-    ∙ sym (with-none (tags_from Behind (rest_text ps)))
+    ∙ sym (with-none (tags_from AfterTag (rest_text ps)))
 part-read before (Some tag) behind ps a t b =
     ap (λ s. tags_from Before s) (append_assoc before (tag_text tag ++ behind) (rest_text ps))
     ∙ before-blanks before ((tag_text tag ++ behind) ++ rest_text ps) a
@@ -54,10 +54,10 @@ tagged : (tag : Option EntityTag) (ps : List Part) (ts : List EntityTag) → Som
 tagged None ps ts = refl
 tagged (Some t) ps ts = refl
 
-rest-read : (ps : List Part) → AllByRecursion IsListPart ps → tags_from Behind (rest_text ps) ≡ Some (filter_map (λ p. p.tag) ps)
+rest-read : (ps : List Part) → AllByRecursion IsListPart ps → tags_from AfterTag (rest_text ps) ≡ Some (filter_map (λ p. p.tag) ps)
 rest-read [] h = refl
 rest-read (p ∷ ps) h =
-    part-read p.before p.tag p.behind ps h.0.before h.0.tag h.0.behind
+    part-read p.before p.tag p.after ps h.0.before h.0.tag h.0.after
     ∙ ap (λ o. with_tags (option_to_list p.tag) o) (rest-read ps h.1)
     ∙ tagged p.tag ps (filter_map (λ q. q.tag) ps)
 
@@ -111,7 +111,7 @@ Shape Before s ts = Whole s ts
 Shape Letter s ts = Weak (47 ∷ []) s ts
 Shape Slash s ts = Weak [] s ts
 Shape Inside s ts = Quote s ts
-Shape Behind s ts = Tail s ts
+Shape AfterTag s ts = Tail s ts
 
 abbrev Sound : ListState → List ℕ → Type 0
 Sound place s = (ts : List EntityTag) → tags_from place s ≡ Some ts → Shape place s ts
@@ -135,11 +135,11 @@ empty-tail ts h = record { blanks = []; parts = []; spelled = refl; tagged = cc;
 empty-whole : (ts : List EntityTag) → Some [] ≡ Some ts → Whole [] ts
 empty-whole ts h =
     record {
-      part = record { before = []; tag = None; behind = [] };
+      part = record { before = []; tag = None; after = [] };
       parts = [];
       spelled = refl;
       tagged = cc;
-      first = record { before = tt; tag = tt; behind = tt };
+      first = record { before = tt; tag = tt; after = tt };
       lawful = tt;
     }
 
@@ -147,11 +147,11 @@ empty-whole ts h =
 tag-whole : (t : EntityTag) (s rest : List ℕ) (ts us : List EntityTag) → s ≡ tag_text t ++ rest → ts ≡ t ∷ us → AllBytesPass is_tag_byte t.opaque → Tail rest us → Whole s ts
 tag-whole t s rest ts us e g h tail =
     record {
-      part = record { before = []; tag = Some t; behind = tail.blanks };
+      part = record { before = []; tag = Some t; after = tail.blanks };
       parts = tail.parts;
       spelled = e ∙ ap (λ r. tag_text t ++ r) tail.spelled ∙ sym (append_assoc (tag_text t) tail.blanks (rest_text tail.parts));
       tagged = g ∙ ap (λ r. t ∷ r) tail.tagged;
-      first = record { before = tt; tag = h; behind = tail.blank };
+      first = record { before = tt; tag = h; after = tail.blank };
       lawful = tail.lawful;
     }
 
@@ -166,22 +166,22 @@ weak-text o rest = ap (λ r. 87 ∷ 47 ∷ 34 ∷ r) (sym (append_assoc o (34 �
 blank-whole : (c : ℕ) (cs : List ℕ) (ts : List EntityTag) → is_blank c ≡ true → Whole cs ts → Whole (c ∷ cs) ts
 blank-whole c cs ts h w =
     record {
-      part = record { before = c ∷ w.part.before; tag = w.part.tag; behind = w.part.behind };
+      part = record { before = c ∷ w.part.before; tag = w.part.tag; after = w.part.after };
       parts = w.parts;
       spelled = ap (λ r. c ∷ r) w.spelled;
       tagged = w.tagged;
-      first = record { before = (h, w.first.before); tag = w.first.tag; behind = w.first.behind };
+      first = record { before = (h, w.first.before); tag = w.first.tag; after = w.first.after };
       lawful = w.lawful;
     }
 
 comma-whole : (cs : List ℕ) (ts : List EntityTag) → Whole cs ts → Whole (44 ∷ cs) ts
 comma-whole cs ts w =
     record {
-      part = record { before = []; tag = None; behind = [] };
+      part = record { before = []; tag = None; after = [] };
       parts = w.part ∷ w.parts;
       spelled = ap (λ r. 44 ∷ r) w.spelled;
       tagged = w.tagged;
-      first = record { before = tt; tag = tt; behind = tt };
+      first = record { before = tt; tag = tt; after = tt };
       lawful = (w.first, w.lawful);
     }
 
@@ -291,7 +291,7 @@ sound-tag-byte : (c : ℕ) (cs : List ℕ) (b : Bool) → is_tag_byte c ≡ b �
 sound-tag-byte c cs true e ts h by = more-quote c cs ts e (by ts h)
 sound-tag-byte c cs false e ts h by = cc
 
-sound-inside : (c : ℕ) (cs : List ℕ) (b : Bool) → (c == 34) ≡ b → (ts : List EntityTag) → cond b (tags_from Behind cs) (cond (is_tag_byte c) (tags_from Inside cs) None) ≡ Some ts → Sound Behind cs → Sound Inside cs → Quote (c ∷ cs) ts
+sound-inside : (c : ℕ) (cs : List ℕ) (b : Bool) → (c == 34) ≡ b → (ts : List EntityTag) → cond b (tags_from AfterTag cs) (cond (is_tag_byte c) (tags_from Inside cs) None) ≡ Some ts → Sound AfterTag cs → Sound Inside cs → Quote (c ∷ cs) ts
 sound-inside c cs true e ts h behind inside = at (λ (x : ℕ). Quote (x ∷ cs) ts) c 34 e (end-quote cs ts (behind ts h))
 sound-inside c cs false e ts h behind inside = sound-tag-byte c cs (is_tag_byte c) refl ts h inside
 
@@ -299,7 +299,7 @@ sound-behind-comma : (c : ℕ) (cs : List ℕ) (b : Bool) → (c == 44) ≡ b �
 sound-behind-comma c cs true e ts h by = at (λ (x : ℕ). Tail (x ∷ cs) ts) c 44 e (comma-tail cs ts (by ts h))
 sound-behind-comma c cs false e ts h by = cc
 
-sound-behind : (c : ℕ) (cs : List ℕ) (b : Bool) → is_blank c ≡ b → (ts : List EntityTag) → cond b (tags_from Behind cs) (cond (c == 44) (tags_from Before cs) None) ≡ Some ts → Sound Behind cs → Sound Before cs → Tail (c ∷ cs) ts
+sound-behind : (c : ℕ) (cs : List ℕ) (b : Bool) → is_blank c ≡ b → (ts : List EntityTag) → cond b (tags_from AfterTag cs) (cond (c == 44) (tags_from Before cs) None) ≡ Some ts → Sound AfterTag cs → Sound Before cs → Tail (c ∷ cs) ts
 sound-behind c cs true e ts h behind before = blank-tail c cs ts e (behind ts h)
 sound-behind c cs false e ts h behind before = sound-behind-comma c cs (c == 44) refl ts h before
 
@@ -310,12 +310,12 @@ sound [] Before = empty-whole
 sound [] Letter = λ ts h. cc
 sound [] Slash = λ ts h. cc
 sound [] Inside = λ ts h. cc
-sound [] Behind = empty-tail
+sound [] AfterTag = empty-tail
 sound (c ∷ cs) Before = λ ts h. sound-before c cs (is_blank c) refl ts h (sound cs Before) (sound cs Inside) (sound cs Letter)
 sound (c ∷ cs) Letter = λ ts h. sound-at-letter c cs (c == 47) refl ts h (sound cs Slash)
 sound (c ∷ cs) Slash = λ ts h. sound-at-slash c cs (c == 34) refl ts h (sound cs Inside)
-sound (c ∷ cs) Inside = λ ts h. sound-inside c cs (c == 34) refl ts h (sound cs Behind) (sound cs Inside)
-sound (c ∷ cs) Behind = λ ts h. sound-behind c cs (is_blank c) refl ts h (sound cs Behind) (sound cs Before)
+sound (c ∷ cs) Inside = λ ts h. sound-inside c cs (c == 34) refl ts h (sound cs AfterTag) (sound cs Inside)
+sound (c ∷ cs) AfterTag = λ ts h. sound-behind c cs (is_blank c) refl ts h (sound cs AfterTag) (sound cs Before)
 
 pub read-spells : (text : List ℕ) (tags : List EntityTag) → tags_from Before text ≡ Some tags → SpellsTags text tags
 read-spells text tags h =

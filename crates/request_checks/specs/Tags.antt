@@ -26,12 +26,12 @@ tag_text t = (if t.weak then codes "W/" else []) ++ (codes "\"" ++ (t.opaque ++ 
 pub record ListPart : Type 0 where
   pub before : List ℕ
   pub tag : Option EntityTag
-  pub behind : List ℕ
+  pub after : List ℕ
 
 pub record IsListPart (p : ListPart) : Type 0 where
   pub before : AllBytesPass is_ows_byte p.before
   pub tag : IfSome p.tag (λ t. AllBytesPass is_tag_byte t.opaque)
-  pub behind : AllBytesPass is_ows_byte p.behind
+  pub after : AllBytesPass is_ows_byte p.after
 
 -- the texts, joined by commas
 abbrev pub join_with_commas : List (List ℕ) → List ℕ
@@ -43,6 +43,6 @@ pub record SpellsTags (text : List ℕ) (tags : List EntityTag) : Type 0 where
   pub parts : List ListPart
   pub spelled : text
       ≡ join_with_commas
-      (map (λ p. p.before ++ (option_map_or tag_text p.tag [] ++ p.behind)) parts)
+      (map (λ p. p.before ++ (option_map_or tag_text p.tag [] ++ p.after)) parts)
   pub tagged : tags ≡ filter_map (λ p. p.tag) parts
   pub lawful : AllByRecursion IsListPart parts

@@ -3,7 +3,7 @@ ghost use Rattle.std.specs.Prelude.{◌≡◌, ◌≤◌, ◌<◌, ◌++◌, ◌
 ghost use Rattle.std.specs.Prelude.{IsErrOf, MatchOption};
 ghost use Rattle.std.specs.List.{prefix_len};
 ghost use Rattle.request_checks.specs.Tags.{is_tag_byte, is_ows_byte};
-ghost use Rattle.request_checks.specs.readers.Fields.{Before, Behind, after_blanks, IsTrimmed};
+ghost use Rattle.request_checks.specs.readers.Fields.{Before, AfterTag, after_blanks, IsTrimmed};
 ghost use Rattle.request_checks.specs.readers.Fields.{after_byte, after_closing_quote};
 ghost use Rattle.request_checks.specs.readers.Fields.{opaque_front, first_tag};
 ghost use Rattle.request_checks.specs.readers.Fields.{tags_from, with_tags, entity_tag};
@@ -135,7 +135,7 @@ fn read_list_part<'a>(
 ) -> Result<&'a [u8], NoMemory>
     ensures reads_rule { IfOk result
         (λ rest. with_tags tags.old.items (tags_from Before text.now)
-        ≡ with_tags tags.new.items (tags_from Behind rest.now)) }
+        ≡ with_tags tags.new.items (tags_from AfterTag rest.now)) }
     ensures no_leading_blank { IfOk result (λ rest. IsTrimmed rest.now) }
     ensures rest_shrinks { IfOk result (λ rest. length rest.now ≤ length text.now) }
 {

@@ -12,7 +12,8 @@ use std::alloc::Global;
 use xcap_io::Bytes;
 use xml_names::{List, Text};
 
-fn is_field_name(text: &Text, word: &[u8]) -> bool
+/// Whether a text is this word, ignoring the case of letters. Does not allocate.
+pub fn is_field_name(text: &Text, word: &[u8]) -> bool
     requires { IsTrue (list_all is_ascii word.now) }
     ensures exact { result ≡ same_ignoring_case text.now word.now }
 {

@@ -29,6 +29,7 @@ pub use condition_replies::condition_reply;
 pub use conditions::Outcome;
 pub use entity_tags::{EntityTag, is_tag_byte};
 pub use faults::ConditionFault;
+pub use field_values::is_field_name;
 pub use head_replies::reply_for_method;
 pub use laws::conditions_have_one_outcome;
 pub use media_types::{document_media_type, has_media_type};

@@ -18,7 +18,7 @@ use Rattle.edit_ops.specs.declared.change.Change.{Change}
 use Rattle.edit_ops.specs.Notes.{Note, note_of}
 use Rattle.store_core.specs.declared.refusal.StoreRefusal.{StoreRefusal}
 use Rattle.store_core.specs.declared.refusal.StoreRefusal.TheVariants.{ServiceTaken, TooLarge, TooMany, StoreFull}
-use Rattle.store_core.specs.State.{Document, State, created, document_after}
+use Rattle.store_core.specs.State.{Document, State, new_document, document_after}
 use Rattle.store_core.specs.Contents.{StoredDocument, Represents, stored_document, StoreContents as Content, contents_of as content_of}
 use Rattle.store_core.specs.ValidStates.{AreDistinct, IsSoundDocumentFor, IsValidState, all_addresses, document_addresses}
 use Rattle.doc_names.specs.Usages.{usage_of}
@@ -146,7 +146,7 @@ room-made ds d n e h = omega (arith, e, h, sum_by-append length_of ds (d ∷ [])
 suited-made : (m : State) (id : DocId) (change : Change) (root : Tree) → IsValidState m → MayRequestByKind (content_of m) id change (Makes root) → refusal_of_tree (content_of m) id true root ≡ None → Suited m id change (Makes root)
 suited-made m id change root k a h =
     let p = passes (content_of m) id true root h in
-    let new = created id m.next root in
+    let new = new_document id m.next root in
     let missing : find (λ (e : Document). same_id id e.id) m.documents ≡ None =
     none-mapped stored_document (find (λ (e : Document). same_id id e.id) m.documents) (sym (find-map stored_document (λ (h : StoredDocument). same_id id h.id) m.documents) ∙ a.0) in
     let all : rest m id ≡ m.documents = none-filtered (λ (e : Document). same_id id e.id) m.documents (not_found_refusal (λ (e : Document). same_id id e.id) m.documents missing) in

@@ -18,7 +18,7 @@ use Rattle.edit_ops.specs.declared.change.Change.{Change}
 use Rattle.edit_ops.specs.Notes.{note_of}
 use Rattle.store_core.specs.declared.refusal.StoreRefusal.{StoreRefusal}
 use Rattle.store_core.specs.declared.refusal.StoreRefusal.TheVariants.{ServiceTaken, TooLarge, TooMany, StoreFull, NoNumber}
-use Rattle.store_core.specs.State.{Document, State, created, document_after}
+use Rattle.store_core.specs.State.{Document, State, new_document, document_after}
 use Rattle.store_core.specs.Contents.{StoredDocument, Represents, stored_document, StoreContents as Content, contents_of as content_of}
 use Rattle.store_core.specs.ValidStates.{AreDistinct, IsSoundDocumentFor, IsValidState, all_addresses, document_addresses}
 use Rattle.doc_names.specs.Usages.{usage_of}
@@ -61,7 +61,7 @@ room-before ds d n e h = omega (arith, e, h, sum_by-append length_of ds (d ∷ [
 admits-made : (m : State) (id : DocId) (change : Change) (root : Tree) → IsAcceptableByKind m id change (Makes root) → AreDistinct (all_addresses (state_after_by_kind m id change (Makes root)).documents) → length (state_after_by_kind m id change (Makes root)).documents ≤ 1000
     → sum_by (λ d. document_len d.now.tree) (state_after_by_kind m id change (Makes root)).documents ≤ 33554432 → refusal_of_tree (content_of m) id true root ≡ None
 admits-made m id change root s services few room =
-    let new = created id m.next root in
+    let new = new_document id m.next root in
     let all : rest m id ≡ m.documents = none-filtered (λ (e : Document). same_id id e.id) m.documents (not_found_refusal (λ (e : Document). same_id id e.id) m.documents s.0) in
     let others : other_addresses (content_of m) id ≡ all_addresses m.documents ++ [] = rest-all_addresses m id ∙ ap (λ (ds : List Document). all_addresses ds) all ∙ sym (append-nil (all_addresses m.documents)) in
     let own = document_addresses id.auid root in

@@ -13,7 +13,7 @@ use Rattle.edit_ops.specs.DiffOperations.{weight}
 use Rattle.store_core.specs.DocumentChanges.{find_document, document_id, stored_id}
 use Rattle.store_core.specs.Contents.{StoredDocument, Represents, stored_document, StoreContents as Content}
 use Rattle.doc_names.specs.Usages.{usage_of}
-use Rattle.store_core.specs.ValidStates.{IsValidDocument, IsValidState}
+use Rattle.store_core.specs.ValidStates.{IsValidHistory, IsValidState}
 use Rattle.store_core.specs.Since.{ReportedChanges, notes_from, since}
 use Rattle.store_core.specs.inner.ChangesSince.{stored_changes_since, changes_since_of}
 use Rattle.store_core.specs.State.{Document, State, Version, is_within_retention, notes, retained_notes, longest_retained_end, versions}
@@ -74,7 +74,7 @@ low_all next (v ∷ vs) h = (h.0.1, low_all next vs h.1)
 -- ---- what is returned
 
 -- an end of a document's records leads from one of its versions to the present one
-from_end : (next : ℕ) (d : Document) (front ns : List Note) → IsValidDocument next d → notes d ≡ front ++ ns → Reached (usage_of d.id.auid) next (versions d) ns d.now
+from_end : (next : ℕ) (d : Document) (front ns : List Note) → IsValidHistory next d → notes d ≡ front ++ ns → Reached (usage_of d.id.auid) next (versions d) ns d.now
 from_end next d front ns kept is =
     let turned : notes_of (versions d) ≡ reverse ns ++ reverse front = sym (reverse-reverse (notes_of (versions d))) ∙ ap reverse is ∙ reverse-append front ns in
     subst (λ l. Reached (usage_of d.id.auid) next (versions d) l d.now) (reverse-reverse ns)
@@ -86,7 +86,7 @@ first_tag usage next from to ns n ms tag h is previous =
     let k : RecordsLeadBetween usage next from (n ∷ ms) to = subst (λ l. RecordsLeadBetween usage next from l to) is h in
     sym (ap (λ (x : Note). x.previous) k.notes.1) ∙ previous
 
-by_story : (m : State) (id : DocId) (tag : ℕ) (ns : List Note) (d : Document) → find_document document_id m.documents id ≡ Some d → IsValidDocument m.next d → changes_since_of (notes_from tag (retained_notes (notes d))) ≡ ReportedChanges ns → AreRecordsSince m id tag ns
+by_story : (m : State) (id : DocId) (tag : ℕ) (ns : List Note) (d : Document) → find_document document_id m.documents id ≡ Some d → IsValidHistory m.next d → changes_since_of (notes_from tag (retained_notes (notes d))) ≡ ReportedChanges ns → AreRecordsSince m id tag ns
 by_story m id tag ns d there kept is = by (notes_from tag (retained_notes (notes d))) refl is
   where
     by : (o : Option (List Note)) → notes_from tag (retained_notes (notes d)) ≡ o → changes_since_of o ≡ ReportedChanges ns → AreRecordsSince m id tag ns
@@ -107,7 +107,7 @@ by_story m id tag ns d there kept is = by (notes_from tag (retained_notes (notes
           few = omega (arith, length-le f.0 ns (retained_notes (notes d)) f.1, g.2);
         }
 
-present : (m : State) (id : DocId) (tag : ℕ) (ns : List Note) (d : Document) → find_document document_id m.documents id ≡ Some d → IsValidDocument m.next d → d.now.tag ≡ tag → [] ≡ ns → AreRecordsSince m id tag ns
+present : (m : State) (id : DocId) (tag : ℕ) (ns : List Note) (d : Document) → find_document document_id m.documents id ≡ Some d → IsValidHistory m.next d → d.now.tag ≡ tag → [] ≡ ns → AreRecordsSince m id tag ns
 present m id tag ns d there kept same none =
     let r = from_end m.next d (notes d) [] kept (sym (append-nil (notes d))) in
     subst (AreRecordsSince m id tag) none (record {
@@ -128,7 +128,7 @@ present m id tag ns d there kept same none =
       few = omega arith;
     })
 
-by_held : (m : State) (id : DocId) (tag : ℕ) (ns : List Note) (d : Document) (b : Bool) → find_document document_id m.documents id ≡ Some d → IsValidDocument m.next d → d.now.tag == tag ≡ b
+by_held : (m : State) (id : DocId) (tag : ℕ) (ns : List Note) (d : Document) (b : Bool) → find_document document_id m.documents id ≡ Some d → IsValidHistory m.next d → d.now.tag == tag ≡ b
     → cond b (ReportedChanges []) (changes_since_of (notes_from tag (retained_notes (notes d)))) ≡ ReportedChanges ns → AreRecordsSince m id tag ns
 by_held m id tag ns d true there kept e s = let none : [] ≡ ns = cc in present m id tag ns d there kept (eqb-true d.now.tag tag e) none
 by_held m id tag ns d false there kept e s = by_story m id tag ns d there kept s
@@ -136,7 +136,7 @@ by_held m id tag ns d false there kept e s = by_story m id tag ns d there kept s
 by_found : (m : State) (id : DocId) (tag : ℕ) (ns : List Note) (o : Option StoredDocument) → IsValidState m → find_document stored_id (map stored_document m.documents) id ≡ o → stored_changes_since tag o ≡ ReportedChanges ns → AreRecordsSince m id tag ns
 by_found m id tag ns None kept is s = absurd (cc)
 by_found m id tag ns (Some h) kept is s =
-    let r = found stored_document (λ x. same_id id x.id) (IsValidDocument m.next) m.documents h kept.documents is in
+    let r = found stored_document (λ x. same_id id x.id) (IsValidHistory m.next) m.documents h kept.documents is in
     by_held m id tag ns r.0 (r.0.now.tag == tag) r.1 r.3 refl (ap (λ o. stored_changes_since tag (Some o)) r.2 ∙ s)
 
 pub told_since : (c : Content) (m : State) (id : DocId) (tag : ℕ) (ns : List Note) → IsValidState m → Represents c m → since c id tag ≡ ReportedChanges ns → AreRecordsSince m id tag ns

@@ -17,8 +17,8 @@ use Rattle.edit_ops.specs.declared.change.Change.{Change}
 use Rattle.edit_ops.specs.Notes.{Note, note_of}
 use Rattle.store_core.specs.declared.entry.Entry.{Entry}
 use Rattle.store_core.specs.declared.staged_tree.StagedTree.{StagedTree}
-use Rattle.store_core.specs.declared.step.Step.{Step}
-use Rattle.store_core.specs.declared.step.Step.TheVariants.{Make, Edit, End}
+use Rattle.store_core.specs.declared.step.EntryStep.{EntryStep}
+use Rattle.store_core.specs.declared.step.EntryStep.TheVariants.{Make, Edit, End}
 use Rattle.store_core.specs.State.{State, first_state, retained_notes}
 use Rattle.store_core.specs.Contents.{StoredDocument, Represents, StoreContents as Content}
 use Rattle.store_core.specs.ValidStates.{AreDistinct, IsSoundDocumentFor, IsValidState, document_addresses}
@@ -283,7 +283,7 @@ pub no-entry : (es : List Row) (last : ℕ) (room : SpareCapacity) (s : StoreVie
 no-entry es last room s doc seen none h =
     nothing-there (find_document stored_id (map stored_view es) doc) (missing-held es doc (sym none)) (subst (λ (x : StoreView). IsSome (find_document stored_id x.content.documents doc)) (sym seen) h)
 
-pub stored : (es : List Row) (rs : List (List ℕ × ℕ)) (last total : ℕ) (p : PreparedChange) (step : Step) (created : ℕ) (next : List Row) (rows : List (List ℕ × ℕ))
+pub stored : (es : List Row) (rs : List (List ℕ × ℕ)) (last total : ℕ) (p : PreparedChange) (step : EntryStep) (created : ℕ) (next : List Row) (rows : List (List ℕ × ℕ))
     → IsConsistentStore es rs last total → IsPlanned (contents_view es last) p → IsStepOf (contents_view es last) p step → TakesStep (record { entries = es; doc = p.doc; number = p.note.next }) step created next
     → ((uri : List ℕ) → registered_number rows uri ≡ registered_after p.leaves p.enters created (registered_number rs uri) uri)
     → (contents_view next p.note.next ≡ contents_after (contents_view es last) p.doc p.note.change) × IsConsistentStore next rows p.note.next p.total
@@ -363,7 +363,7 @@ may-edit es rs last total p staged kept len v s planned step found =
       subst (λ (x : Change). IsStagedTreeFor v.tree.root x staged) changed (subst (λ (x : Tree). IsStagedTreeFor x p.note.change staged) tree step.3),
     )
 
-pub steppable : (es : List Row) (rs : List (List ℕ × ℕ)) (last total : ℕ) (p : PreparedChange) (step : Step) → IsConsistentStore es rs last total → IsPlanned (contents_view es last) p → IsStepOf (contents_view es last) p step
+pub steppable : (es : List Row) (rs : List (List ℕ × ℕ)) (last total : ℕ) (p : PreparedChange) (step : EntryStep) → IsConsistentStore es rs last total → IsPlanned (contents_view es last) p → IsStepOf (contents_view es last) p step
     → HasTreeForStep step (lookup (same_id p.doc) (unshared_flags es)) → CanTakeStep es p.doc step
 steppable es rs last total p (Make key entry) s planned step has =
     subst (λ (d : DocId). lookup (same_id d) es ≡ None) (sym step.6) (not-there es rs last total p.doc (lookup (same_id p.doc) es) s refl step.0)

@@ -13,7 +13,7 @@ use Rattle.doc_names.specs.declared.doc_id.DocId.{DocId}
 use Rattle.store_core.specs.declared.entry.Entry.{Entry}
 use Rattle.store_core.specs.State.{Document, State}
 use Rattle.store_core.specs.Contents.{StoredDocument, Represents, stored_document, StoreContents as Content}
-use Rattle.store_core.specs.ValidStates.{AreDistinct, IsValidDocument, IsSoundDocumentFor, IsValidState, all_addresses, document_addresses}
+use Rattle.store_core.specs.ValidStates.{AreDistinct, IsValidHistory, IsSoundDocumentFor, IsValidState, all_addresses, document_addresses}
 use Rattle.doc_names.specs.Usages.{usage_of}
 use Rattle.store_core.specs.DocumentChanges.{find_document, stored_id}
 use Rattle.store_core.specs.inner.StoreMemory.{contents_view, stored_view, entry_len, entry_id, entry_addresses}
@@ -125,10 +125,10 @@ low-of None t h = absurd h
 low-of (Some usage) t h = h.low
 
 -- what holds of the present tree of each document holds of each entry's tree
-each-tree : (P : Tree → Type 0) (m : State) (es : List (DocId × Entry)) → map stored_view es ≡ map stored_document m.documents → ((d : Document) → IsValidDocument m.next d → P d.now.tree) → AllByRecursion (IsValidDocument m.next) m.documents → AllByRecursion (λ e. P e.1.tree.root) es
+each-tree : (P : Tree → Type 0) (m : State) (es : List (DocId × Entry)) → map stored_view es ≡ map stored_document m.documents → ((d : Document) → IsValidHistory m.next d → P d.now.tree) → AllByRecursion (IsValidHistory m.next) m.documents → AllByRecursion (λ e. P e.1.tree.root) es
 each-tree P m es same by k =
     let Q : StoredDocument → Type 0 = λ h. P h.tree in
-    let kept : Document → Type 0 = λ d. IsValidDocument m.next d in
+    let kept : Document → Type 0 = λ d. IsValidHistory m.next d in
     let held : Document → Type 0 = λ d. P d.now.tree in
     each-unmapped Q stored_view es (subst (λ (hs : List StoredDocument). AllByRecursion Q hs) (sym same) (each-mapped Q stored_document m.documents (each-weaker kept held by m.documents k)))
 

@@ -11,8 +11,8 @@ use Rattle.doc_names.specs.declared.doc_id.DocId.{DocId}
 use Rattle.edit_ops.specs.Changes.{FitsTree, edited}
 use Rattle.edit_ops.specs.declared.change.Change.{Change}
 use Rattle.edit_ops.specs.Notes.{note_of}
-use Rattle.store_core.specs.State.{Document, State, Version, versions, document_after, created, first_state}
-use Rattle.store_core.specs.ValidStates.{AreDistinct, IsValidDocument, IsSoundDocumentFor, IsUserHome, IsValidState, all_addresses}
+use Rattle.store_core.specs.State.{Document, State, Version, versions, document_after, new_document, first_state}
+use Rattle.store_core.specs.ValidStates.{AreDistinct, IsValidHistory, IsSoundDocumentFor, IsUserHome, IsValidState, all_addresses}
 use Rattle.doc_names.specs.Usages.{usage_of}
 use Rattle.store_core.specs.DocumentChanges.{ChangeKind, Makes, Edits, Removes, change_kind, state_after, state_after_by_kind}
 use Rattle.store_core.specs.AcceptableChanges.{IsAcceptable, IsAcceptableByKind}
@@ -33,7 +33,7 @@ le-add a n h = omega arith
 
 -- ---- one document
 
-kept-later : (n : ℕ) (d : Document) → IsValidDocument n d → IsValidDocument (n + 1) d
+kept-later : (n : ℕ) (d : Document) → IsValidHistory n d → IsValidHistory (n + 1) d
 kept-later n d k =
     record {
       readable = k.readable;
@@ -43,11 +43,11 @@ kept-later n d k =
       follows = k.follows;
     }
 
-kept-all-later : (n : ℕ) (ds : List Document) → AllByRecursion (IsValidDocument n) ds → AllByRecursion (IsValidDocument (n + 1)) ds
-kept-all-later n ds k = each-weaker (IsValidDocument n) (IsValidDocument (n + 1)) (kept-later n) ds k
+kept-all-later : (n : ℕ) (ds : List Document) → AllByRecursion (IsValidHistory n) ds → AllByRecursion (IsValidHistory (n + 1)) ds
+kept-all-later n ds k = each-weaker (IsValidHistory n) (IsValidHistory (n + 1)) (kept-later n) ds k
 
-kept-created : (id : DocId) (n : ℕ) (root : Tree) → 1 ≤ n → IsAddressable id → IsUserHome id.home → IsSoundDocumentFor (usage_of id.auid) root → IsValidDocument (n + 1) (created id n root)
-kept-created id n root s r u h =
+kept-new_document : (id : DocId) (n : ℕ) (root : Tree) → 1 ≤ n → IsAddressable id → IsUserHome id.home → IsSoundDocumentFor (usage_of id.auid) root → IsValidHistory (n + 1) (new_document id n root)
+kept-new_document id n root s r u h =
     record {
       readable = r;
       users = u;
@@ -56,7 +56,7 @@ kept-created id n root s r u h =
       follows = refl;
     }
 
-kept-document_after : (n : ℕ) (d : Document) (change : Change) → 1 ≤ n → IsValidDocument n d → FitsTree d.now.tree change → IsSoundDocumentFor (usage_of d.id.auid) (edited d.now.tree change) → IsValidDocument (n + 1) (document_after n d (note_of d.now.tag n d.now.tree change))
+kept-document_after : (n : ℕ) (d : Document) (change : Change) → 1 ≤ n → IsValidHistory n d → FitsTree d.now.tree change → IsSoundDocumentFor (usage_of d.id.auid) (edited d.now.tree change) → IsValidHistory (n + 1) (document_after n d (note_of d.now.tag n d.now.tree change))
 kept-document_after n d change s k fits h =
     record {
       readable = k.readable;
@@ -75,7 +75,7 @@ below-versions : (n : ℕ) (vs : List Version) → AllByRecursion (Dated n) vs �
 below-versions n [] h = tt
 below-versions n (v ∷ vs) h = (below-one n v.tag h.0.1, below-versions n vs h.1)
 
-below-documents : (n : ℕ) (ds : List Document) → AllByRecursion (IsValidDocument n) ds → AllByRecursion (λ t. n ≢ t) (flat_map tags_of ds)
+below-documents : (n : ℕ) (ds : List Document) → AllByRecursion (IsValidHistory n) ds → AllByRecursion (λ t. n ≢ t) (flat_map tags_of ds)
 below-documents n [] k = tt
 below-documents n (d ∷ ds) k = each-append (λ t. n ≢ t) (tags_of d) (flat_map tags_of ds) (below-versions n (versions d) k.0.tags) (below-documents n ds k.1)
 
@@ -100,14 +100,14 @@ kept-made : (m : State) (id : DocId) (change : Change) (root : Tree) → IsValid
     → length (state_after_by_kind m id change (Makes root)).documents ≤ 1000 → sum_by (λ d. document_len d.now.tree) (state_after_by_kind m id change (Makes root)).documents ≤ 33554432 → IsValidState (state_after_by_kind m id change (Makes root))
 kept-made m id change root k s services few room =
     let ds = m.documents in
-    let new = created id m.next root in
+    let new = new_document id m.next root in
     let names : AreDistinct (map name_of ds ++ id ∷ []) =
     apart-put (map name_of ds) [] id (subst (λ (xs : List DocId). AreDistinct xs) (sym (append-nil (map name_of ds))) k.names) (subst (λ (xs : List DocId). AllByRecursion (λ y. id ≢ y) xs) (sym (append-nil (map name_of ds))) (none-found id ds s.0)) in
     let tags : AreDistinct (flat_map tags_of ds ++ m.next ∷ []) =
     apart-put (flat_map tags_of ds) [] m.next (subst (λ (xs : List ℕ). AreDistinct xs) (sym (append-nil (flat_map tags_of ds))) k.tags) (subst (λ (xs : List ℕ). AllByRecursion (λ t. m.next ≢ t) xs) (sym (append-nil (flat_map tags_of ds))) (below-documents m.next ds k.documents)) in
     record {
       started = le-add 1 m.next k.started;
-      documents = each-append (IsValidDocument (m.next + 1)) ds (new ∷ []) (kept-all-later m.next ds k.documents) (kept-created id m.next root k.started s.1 s.2 s.3, tt);
+      documents = each-append (IsValidHistory (m.next + 1)) ds (new ∷ []) (kept-all-later m.next ds k.documents) (kept-new_document id m.next root k.started s.1 s.2 s.3, tt);
       names = subst (λ (xs : List DocId). AreDistinct xs) (sym (map-append name_of ds (new ∷ []))) names;
       tags = subst (λ (xs : List ℕ). AreDistinct xs) (sym (flat_map-append tags_of ds (new ∷ []))) tags;
       services = services;
@@ -125,17 +125,17 @@ pub record Round (m : State) (id : DocId) (d : Document) : Type 0 where
   pub passes : same_id id d.id ≡ true
   pub none-before : AllByRecursion (λ e. same_id id e.id ≡ false) before
   pub none-behind : AllByRecursion (λ e. same_id id e.id ≡ false) behind
-  pub kept-before : AllByRecursion (IsValidDocument m.next) before
-  pub kept : IsValidDocument m.next d
-  pub kept-behind : AllByRecursion (IsValidDocument m.next) behind
+  pub kept-before : AllByRecursion (IsValidHistory m.next) before
+  pub kept : IsValidHistory m.next d
+  pub kept-behind : AllByRecursion (IsValidHistory m.next) behind
   pub names : AreDistinct (map name_of before ++ d.id ∷ map name_of behind)
   pub tags : AreDistinct (flat_map tags_of before ++ (tags_of d ++ flat_map tags_of behind))
 
 pub round : (m : State) (id : DocId) (d : Document) → IsValidState m → find (λ e. same_id id e.id) m.documents ≡ Some d → Round m id d
 round m id d k h =
     let s = split (λ (e : Document). same_id id e.id) m.documents d h in
-    let all : AllByRecursion (IsValidDocument m.next) (s.before ++ d ∷ s.behind) = subst (λ (ds : List Document). AllByRecursion (IsValidDocument m.next) ds) s.parts k.documents in
-    let right = each-right (IsValidDocument m.next) s.before (d ∷ s.behind) all in
+    let all : AllByRecursion (IsValidHistory m.next) (s.before ++ d ∷ s.behind) = subst (λ (ds : List Document). AllByRecursion (IsValidHistory m.next) ds) s.parts k.documents in
+    let right = each-right (IsValidHistory m.next) s.before (d ∷ s.behind) all in
     let names : AreDistinct (map name_of s.before ++ d.id ∷ map name_of s.behind) =
     subst (λ (xs : List DocId). AreDistinct xs) (ap (map name_of) s.parts ∙ map-append name_of s.before (d ∷ s.behind)) k.names in
     record {
@@ -145,7 +145,7 @@ round m id d k h =
       passes = s.passes;
       none-before = s.none;
       none-behind = none-behind id d s.behind s.passes (apart-behind (map name_of s.before) (map name_of s.behind) d.id names);
-      kept-before = each-left (IsValidDocument m.next) s.before (d ∷ s.behind) all;
+      kept-before = each-left (IsValidHistory m.next) s.before (d ∷ s.behind) all;
       kept = right.0;
       kept-behind = right.1;
       names = names;
@@ -179,8 +179,8 @@ kept-edited m id change k s services few room =
     record {
       started = le-add 1 m.next k.started;
       documents =
-          subst (λ (ds : List Document). AllByRecursion (IsValidDocument (m.next + 1)) ds) (sym docs)
-          (each-append (IsValidDocument (m.next + 1)) r.before (update_entry d ∷ r.behind) (kept-all-later m.next r.before r.kept-before)
+          subst (λ (ds : List Document). AllByRecursion (IsValidHistory (m.next + 1)) ds) (sym docs)
+          (each-append (IsValidHistory (m.next + 1)) r.before (update_entry d ∷ r.behind) (kept-all-later m.next r.before r.kept-before)
           (kept-document_after m.next d change k.started r.kept f.holds.0 f.holds.1, kept-all-later m.next r.behind r.kept-behind));
       names = subst (λ (xs : List DocId). AreDistinct xs) (sym (ap (map name_of) docs ∙ map-append name_of r.before (update_entry d ∷ r.behind))) r.names;
       tags =
@@ -207,8 +207,8 @@ kept-removed m id change k s services few room =
     record {
       started = le-add 1 m.next k.started;
       documents =
-          subst (λ (ds : List Document). AllByRecursion (IsValidDocument (m.next + 1)) ds) (sym docs)
-          (each-append (IsValidDocument (m.next + 1)) r.before r.behind (kept-all-later m.next r.before r.kept-before) (kept-all-later m.next r.behind r.kept-behind));
+          subst (λ (ds : List Document). AllByRecursion (IsValidHistory (m.next + 1)) ds) (sym docs)
+          (each-append (IsValidHistory (m.next + 1)) r.before r.behind (kept-all-later m.next r.before r.kept-before) (kept-all-later m.next r.behind r.kept-behind));
       names = subst (λ (xs : List DocId). AreDistinct xs) (sym (ap (map name_of) docs ∙ map-append name_of r.before r.behind)) (apart-cut (map name_of r.before) (d.id ∷ []) (map name_of r.behind) r.names);
       tags = subst (λ (xs : List ℕ). AreDistinct xs) (sym (ap (flat_map tags_of) docs ∙ flat_map-append tags_of r.before r.behind)) (apart-cut (flat_map tags_of r.before) (tags_of d) (flat_map tags_of r.behind) r.tags);
       services = services;

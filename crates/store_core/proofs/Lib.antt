@@ -21,6 +21,7 @@ pub mod Keeps
 pub mod KeptAfter
 pub mod Places
 pub mod PlanAnswers
+pub mod PresentDocuments
 pub mod PutLengths
 pub mod RegistryLemmas
 pub mod Rings

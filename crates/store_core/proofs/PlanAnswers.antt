@@ -15,8 +15,8 @@ use Rattle.edit_ops.specs.Notes.{Note, note_of}
 use Rattle.store_core.specs.declared.refusal.StoreRefusal.{StoreRefusal}
 use Rattle.store_core.specs.declared.entry.Entry.{Entry}
 use Rattle.store_core.specs.declared.staged_tree.StagedTree.TheVariants.{Whole, InPlace}
-use Rattle.store_core.specs.declared.step.Step.{Step}
-use Rattle.store_core.specs.declared.step.Step.TheVariants.{Make, Edit, End}
+use Rattle.store_core.specs.declared.step.EntryStep.{EntryStep}
+use Rattle.store_core.specs.declared.step.EntryStep.TheVariants.{Make, Edit, End}
 use Rattle.store_core.specs.Contents.{StoredDocument, StoreContents as Content}
 use Rattle.store_core.specs.ValidStates.{IsSoundDocumentFor, document_addresses}
 use Rattle.store_core.specs.ChangePreconditions.{MayRequest, MayBeDocumentFor}
@@ -161,7 +161,7 @@ edit-planned c doc change v o p asks edits held outlined noted =
     let h = held.0 in
     let note = noted.0 in
     let staged = noted.3.0 in
-    let with-step : Step → PreparedChange = λ s. record { doc = doc; note = note; step = s; leaves = o.leaves; enters = o.enters; total = o.total } in
+    let with-step : EntryStep → PreparedChange = λ s. record { doc = doc; note = note; step = s; leaves = o.leaves; enters = o.enters; total = o.total } in
     let tree : v.tree.root ≡ h.tree = sym held.2 in
     let full : note ≡ note_of h.tag c.next h.tree change =
     noted.2 ∙ ap (λ (t : ℕ). note_of t o.number v.tree.root change) (sym held.3) ∙ ap (λ (t : Tree). note_of h.tag o.number t change) tree ∙ ap (λ (n : ℕ). note_of h.tag n h.tree change) outlined.number in
@@ -231,7 +231,7 @@ prepared-ok c doc change p h =
     (r.0, subst (λ (d : DocId). change_result c d change ≡ Ok (p.note, contents_after c d change)) r.0 made, r.1)
 
 -- only an edit within the root is made in place
-has-tree : (c : Content) (p : PreparedChange) (step : Step) (trees : List (DocId × Bool)) → IsStepOf c p step → (edits_within_root p.note.change ≡ true → IsUnshared trees p.doc) → HasTreeForStep step (lookup (same_id p.doc) trees)
+has-tree : (c : Content) (p : PreparedChange) (step : EntryStep) (trees : List (DocId × Bool)) → IsStepOf c p step → (edits_within_root p.note.change ≡ true → IsUnshared trees p.doc) → HasTreeForStep step (lookup (same_id p.doc) trees)
 has-tree c p (Make key entry) trees h own = tt
 has-tree c p (Edit (Whole root) kept len) trees h own = λ b is. tt
 has-tree c p (Edit (InPlace staged) kept len) trees h own = own h.3.1

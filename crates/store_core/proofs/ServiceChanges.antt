@@ -166,8 +166,8 @@ same-attrs [] g h k = h k
 same-attrs (n ∷ q) g h k = refl
 
 module _ (t : Tree) (i : ℕ) (k : Tree) (there : slice_get (child_elements_of t) i ≡ Some k) (old : IsValidDocument usages.RlsServices t) where
-  abbrev Root : Scope
-  Root = t.decls ∷ []
+  abbrev SharedRoot : Scope
+  SharedRoot = t.decls ∷ []
 
   abbrev front-child_elements : List Tree
   front-child_elements = take i (child_elements_of t)
@@ -185,28 +185,28 @@ module _ (t : Tree) (i : ℕ) (k : Tree) (there : slice_get (child_elements_of t
     exchanged-child_element : AreReplacedAt i (service_uris t) (service_address k) (service_address (f k)) (service_uris (change_child i f t))
     unfolding uris
     exchanged-child_element =
-        one-changed Root front-child_elements rest-child_elements (child_elements_of t) (child_elements_of (change_child i f t)) i (before-it (child_elements_of t) i k there) (all-serve t old) (all-serve (change_child i f t) new)
+        one-changed SharedRoot front-child_elements rest-child_elements (child_elements_of t) (child_elements_of (change_child i f t)) i (before-it (child_elements_of t) i k there) (all-serve t old) (all-serve (change_child i f t) new)
         k (f k) (parted (child_elements_of t) i k there) child_elements-then
 
     kept-child_element : value_of Uri (f k).attrs ≡ value_of Uri k.attrs → service_uris t ≡ service_uris (change_child i f t)
     unfolding uris
     kept-child_element same =
-        same-service_address Root front-child_elements rest-child_elements (child_elements_of t) (child_elements_of (change_child i f t)) i (before-it (child_elements_of t) i k there) (all-serve t old) (all-serve (change_child i f t) new)
+        same-service_address SharedRoot front-child_elements rest-child_elements (child_elements_of t) (child_elements_of (change_child i f t)) i (before-it (child_elements_of t) i k there) (all-serve t old) (all-serve (change_child i f t) new)
         k (f k) (parted (child_elements_of t) i k there) child_elements-then same
 
     kept-attrs : (f k).attrs ≡ k.attrs → service_uris t ≡ service_uris (change_child i f t)
     kept-attrs same = kept-child_element (ap (value_of Uri) same)
 
-    served : Serves Root (f k)
+    served : Serves SharedRoot (f k)
     served = of-child_element (all-serve (change_child i f t) new) child_elements-then
       where
-        of-child_element : AllByRecursion (Serves Root) (child_elements_of (change_child i f t)) → child_elements_of (change_child i f t) ≡ front-child_elements ++ f k ∷ rest-child_elements → Serves Root (f k)
-        of-child_element all is = (each-right (Serves Root) front-child_elements (f k ∷ rest-child_elements) (subst (λ (es : List Tree). AllByRecursion (Serves Root) es) is all)).0
+        of-child_element : AllByRecursion (Serves SharedRoot) (child_elements_of (change_child i f t)) → child_elements_of (change_child i f t) ≡ front-child_elements ++ f k ∷ rest-child_elements → Serves SharedRoot (f k)
+        of-child_element all is = (each-right (Serves SharedRoot) front-child_elements (f k ∷ rest-child_elements) (subst (λ (es : List Tree). AllByRecursion (Serves SharedRoot) es) is all)).0
 
   removed-child_element : IsValidDocument usages.RlsServices (cut_child i t) → AreReplacedAt i (service_uris t) (service_address k) [] (service_uris (cut_child i t))
   unfolding uris
   removed-child_element new =
-      one-less Root front-child_elements rest-child_elements (child_elements_of t) (child_elements_of (cut_child i t)) i (before-it (child_elements_of t) i k there) (all-serve t old) (all-serve (cut_child i t) new)
+      one-less SharedRoot front-child_elements rest-child_elements (child_elements_of t) (child_elements_of (cut_child i t)) i (before-it (child_elements_of t) i k there) (all-serve t old) (all-serve (cut_child i t) new)
       k (parted (child_elements_of t) i k there) (child_elements-cut i t.content)
 
 inserted-child_element : (t : Tree) (gap : ℕ) (e : Tree) → gap ≤ length (child_elements_of t) → IsValidDocument usages.RlsServices t → IsValidDocument usages.RlsServices (put_kid gap e t)

@@ -7,7 +7,7 @@ use Rattle.doc_names.specs.Usages.{usage_of}
 use Rattle.doc_names.specs.declared.doc_id.DocId.{DocId}
 use Rattle.store_core.specs.DocumentChanges.{find_document, stored_id}
 use Rattle.store_core.specs.Contents.{StoredDocument, Represents, stored_document, StoreContents as Content}
-use Rattle.store_core.specs.ValidStates.{IsValidDocument, IsSoundDocumentFor, IsValidState}
+use Rattle.store_core.specs.ValidStates.{IsValidHistory, IsSoundDocumentFor, IsValidState}
 use Rattle.store_core.specs.State.{Document, State}
 use Rattle.store_core.proofs.ChangePremises.{found-name}
 
@@ -23,7 +23,7 @@ sound_found id (d ∷ ds) h all is = by (same_id id d.id) is (sound_found id ds 
     by true found below = let same : d ≡ h = cc in subst (λ (e : StoredDocument). IsSoundDocumentFor (usage_of e.id.auid) e.tree) same all.0
     by false found below = below found
 
-each_held : (next : ℕ) (ds : List Document) → AllByRecursion (IsValidDocument next) ds → AllByRecursion (λ h. IsSoundDocumentFor (usage_of h.id.auid) h.tree) (map stored_document ds)
+each_held : (next : ℕ) (ds : List Document) → AllByRecursion (IsValidHistory next) ds → AllByRecursion (λ h. IsSoundDocumentFor (usage_of h.id.auid) h.tree) (map stored_document ds)
 each_held next [] all = tt
 each_held next (d ∷ ds) all = (all.0.sound.0, each_held next ds all.1)
 

@@ -8,7 +8,7 @@ use Rattle.edit_ops.specs.Changes.{edited}
 use Rattle.edit_ops.specs.declared.change.Change.{Change}
 use Rattle.edit_ops.specs.Notes.{Note, note_of}
 use Rattle.edit_ops.specs.DiffOperations.{weight}
-use Rattle.store_core.specs.State.{Document, State, versions, notes, retained_notes, document_after, created}
+use Rattle.store_core.specs.State.{Document, State, versions, notes, retained_notes, document_after, new_document}
 use Rattle.store_core.specs.Contents.{StoredDocument, Represents, stored_document, StoreContents as Content, contents_of as content_of}
 use Rattle.store_core.specs.DocumentChanges.{ChangeKind, Makes, Edits, Removes, change_kind, state_after, state_after_by_kind, contents_after, contents_after_by_kind, stored_document_after}
 use Rattle.store_core.proofs.Ends.{longest_retained_end-push}
@@ -54,9 +54,9 @@ alike c d documents next = ap₂ (λ (hs : List StoredDocument) (n : ℕ). let m
 stood : (c : Content) (m : State) (id : DocId) (change : Change) (act : ChangeKind) → c.documents ≡ map stored_document m.documents → c.next ≡ m.next → Represents (contents_after_by_kind c id change act) (state_after_by_kind m id change act)
 stood c m id change (Makes root) documents next =
     alike (contents_after_by_kind c id change (Makes root)) (content_of (state_after_by_kind m id change (Makes root)))
-    (ap (λ (n : ℕ). c.documents ++ stored_document (created id n root) ∷ []) next
-    ∙ ap (λ (hs : List StoredDocument). hs ++ stored_document (created id m.next root) ∷ []) documents
-    ∙ sym (map-append stored_document m.documents (created id m.next root ∷ [])))
+    (ap (λ (n : ℕ). c.documents ++ stored_document (new_document id n root) ∷ []) next
+    ∙ ap (λ (hs : List StoredDocument). hs ++ stored_document (new_document id m.next root) ∷ []) documents
+    ∙ sym (map-append stored_document m.documents (new_document id m.next root ∷ [])))
     (ap (λ n. n + 1) next)
 stood c m id change Edits documents next =
     alike (contents_after_by_kind c id change Edits) (content_of (state_after_by_kind m id change Edits))

@@ -29,3 +29,17 @@ contents_of m = record { documents = map stored_document m.documents; next = m.n
 -- contents that represent the state
 abbrev pub Represents : StoreContents → State → Type 0
 Represents content state = content ≡ contents_of state
+
+-- ---- what is stored now
+
+abbrev pub stored_now : StoredDocument → DocId × ℕ × Tree
+stored_now h = (h.id, h.tag, h.tree)
+
+abbrev pub document_now : Document → DocId × ℕ × Tree
+document_now d = (d.id, d.now.tag, d.now.tree)
+
+-- The contents have the documents of the state, each with its present etag and tree, and its next
+-- number; which change records they retain is left open.
+pub record HasDocumentsOf (content : StoreContents) (state : State) : Type 0 where
+  pub documents : map stored_now content.documents ≡ map document_now state.documents
+  pub next : content.next ≡ state.next

@@ -23,7 +23,7 @@ use Rattle.store_core.specs.declared.limits.TheConstants.{MAX_DOCUMENTS}
 use Rattle.store_core.specs.declared.refusal.StoreRefusal.{StoreRefusal}
 use Rattle.store_core.specs.declared.refusal.StoreRefusal.TheVariants.{ServiceTaken, TooLarge}
 use Rattle.store_core.specs.declared.refusal.StoreRefusal.TheVariants.{TooMany, StoreFull, NoNumber}
-use Rattle.store_core.specs.State.{Document, State, created, document_after, retained_notes}
+use Rattle.store_core.specs.State.{Document, State, new_document, document_after, retained_notes}
 use Rattle.store_core.specs.Contents.{StoredDocument, StoreContents}
 use Rattle.store_core.specs.ValidStates.{document_addresses}
 
@@ -38,7 +38,7 @@ module _ {D : Type 0} (id_of : D → DocId) where
   abbrev pub with_document : (D → D) → List D → DocId → List D
   with_document f ds id = map (λ d. if same_id id (id_of d) then f d else d) ds
 
-  -- all documents but the one of this name
+  -- all documents without the document of this name
   abbrev pub without_document : List D → DocId → List D
   without_document ds id = filter (λ d. not (same_id id (id_of d))) ds
 
@@ -65,7 +65,7 @@ change_kind _ = Edits
 
 abbrev pub state_after_by_kind : State → DocId → Change → ChangeKind → State
 state_after_by_kind m id change (Makes root) =
-    record { documents = m.documents ++ created id m.next root ∷ []; next = m.next + 1 }
+    record { documents = m.documents ++ new_document id m.next root ∷ []; next = m.next + 1 }
 state_after_by_kind m id change Edits =
     record {
       documents =

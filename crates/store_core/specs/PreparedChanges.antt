@@ -8,8 +8,8 @@ use Rattle.doc_names.specs.declared.doc_id.DocId.{DocId}
 use Rattle.edit_ops.specs.Changes.{edited}
 use Rattle.edit_ops.specs.declared.change.Change.TheVariants.{CreateDocument, RemoveDocument}
 use Rattle.edit_ops.specs.Notes.{Note, note_of}
-use Rattle.store_core.specs.declared.step.Step.{Step}
-use Rattle.store_core.specs.declared.step.Step.TheVariants.{Make, Edit, End}
+use Rattle.store_core.specs.declared.step.EntryStep.{EntryStep}
+use Rattle.store_core.specs.declared.step.EntryStep.TheVariants.{Make, Edit, End}
 use Rattle.store_core.specs.Contents.{StoredDocument, StoreContents}
 use Rattle.store_core.specs.ValidStates.{document_addresses}
 use Rattle.store_core.specs.ChangePreconditions.{MayRequest}
@@ -26,7 +26,7 @@ use Rattle.store_core.specs.StoreViews.{StoreView, new_entry}
 pub record PreparedChange : Type 0 where
   pub doc : DocId
   pub note : Note
-  pub step : Step
+  pub step : EntryStep
   pub leaves : List (List ℕ)
   pub enters : List (List ℕ)
   pub total : ℕ
@@ -42,7 +42,7 @@ abbrev pub total_len : StoreContents → ℕ
 total_len c = sum_by (λ h. document_len h.tree) c.documents
 
 -- the step is the change's
-abbrev pub IsStepOf : StoreContents → PreparedChange → Step → Type 0
+abbrev pub IsStepOf : StoreContents → PreparedChange → EntryStep → Type 0
 IsStepOf c p (Make key entry) =
     (find_document stored_id c.documents p.doc ≡ None)
     × (p.note.change ≡ CreateDocument entry.tree.root) × (entry ≡ new_entry c.next entry.tree.root)
@@ -73,7 +73,7 @@ pub record IsPlanned (c : StoreContents) (p : PreparedChange) : Type 0 where
 
 -- where the step changes the tree of its document in place, and the store has that tree, it is
 -- unshared
-abbrev pub HasTreeForStep : Step → Option Bool → Type 0
+abbrev pub HasTreeForStep : EntryStep → Option Bool → Type 0
 HasTreeForStep (Make key entry) found = Unit {0}
 HasTreeForStep (Edit staged kept len) found =
     (own : Bool) → found ≡ Some own → IsUnsharedIfInPlace staged own

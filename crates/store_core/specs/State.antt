@@ -67,7 +67,7 @@ document_after tag d n =
       earlier = versions d;
     }
 
--- a new document
-abbrev pub created : DocId → ℕ → Tree → Document
-created id tag root =
+-- a document that has one version
+abbrev pub new_document : DocId → ℕ → Tree → Document
+new_document id tag root =
     record { id = id; now = record { tag = tag; tree = root; note = None }; earlier = [] }

@@ -59,7 +59,7 @@ AreSuccessiveVersions v (w ∷ ws) =
 
 -- ---- documents
 
-pub record IsValidDocument (next : ℕ) (d : Document) : Type 0 where
+pub record IsValidHistory (next : ℕ) (d : Document) : Type 0 where
   pub readable : IsAddressable d.id
   pub users : IsUserHome d.id.home
   pub sound : AllByRecursion (λ v. IsSoundDocumentFor (usage_of d.id.auid) v.tree) (versions d)
@@ -79,7 +79,7 @@ all_addresses ds = flat_map (λ d. document_addresses d.id.auid d.now.tree) ds
 
 pub record IsValidState (state : State) : Type 0 where
   pub started : 1 ≤ state.next
-  pub documents : AllByRecursion (IsValidDocument state.next) state.documents
+  pub documents : AllByRecursion (IsValidHistory state.next) state.documents
   pub names : AreDistinct (map (λ d. d.id) state.documents)
   -- no two versions have the same etag, in one document or in two
   pub tags : AreDistinct (flat_map (λ d. map (λ v. v.tag) (versions d)) state.documents)

@@ -7,7 +7,7 @@ ghost use Rattle.store_core.specs.TreeChanges.{IsUnsharedIfInPlace, IsStagedTree
 
 use crate::NoMemory;
 use crate::printed_tree::PrintedTree;
-use crate::shared_root::Root;
+use crate::shared_root::SharedRoot;
 use crate::staged_tree::StagedTree;
 use edit_ops::{Change, Staged};
 use std::alloc::Global;
@@ -20,7 +20,7 @@ use xml_tree::Element;
 /// read, until the tree changes. Contracts see the tree, and whether nobody shares it.
 #[derive(Drop)]
 pub struct CachedTree {
-    root: Root,
+    root: SharedRoot,
     print: Option<Bytes>,
 }
 
@@ -48,7 +48,7 @@ impl CachedTree {
     {
         let PrintedTree { tree, print } = printed;
         CachedTree {
-            root: Root::Noted(tree),
+            root: SharedRoot::Noted(tree),
             print,
         }
     }
@@ -57,7 +57,7 @@ impl CachedTree {
     pub(crate) fn root(&self) -> &Element
         ensures exact { result.now ≡ self.now.root }
     {
-        self.root.lent()
+        self.root.as_element()
     }
 
     /// Makes the tree unshared; the tree and its print are unchanged.
@@ -108,7 +108,7 @@ impl CachedTree {
         if let Some(print) = &self.print {
             return print.copy(alloc);
         }
-        let print = print_document(alloc, self.root.lent())?;
+        let print = print_document(alloc, self.root.as_element())?;
         match print.copy(alloc) {
             Ok(copy) => {
                 self.print = Some(print);

@@ -7,7 +7,7 @@ ghost use Rattle.edit_ops.specs.InsertedElements.{InsertsElement, inserted_eleme
 ghost use Rattle.edit_ops.specs.Notes.{note_of};
 ghost use Rattle.store_core.specs.TreeChanges.{IsStagedTreeFor};
 ghost use Rattle.store_core.specs.StoreViews.{new_entry};
-ghost use Rattle.store_core.specs.declared.step.Step.TheVariants as steps;
+ghost use Rattle.store_core.specs.declared.step.EntryStep.TheVariants as steps;
 ghost use Rattle.store_core.specs.inner.ChangePlans.{IsPreparedEdit, IsEditStep};
 ghost use Rattle.store_core.specs.inner.Prints.{IsInsertedPrint, IsPrintOf};
 ghost use Rattle.usage_docs.specs.Services.{document_len};
@@ -19,7 +19,7 @@ use crate::printed_tree::PrintedTree;
 use crate::put_lengths::Put;
 use crate::root_changes::edits_within_root;
 use crate::staged_tree::StagedTree;
-use crate::step::Step;
+use crate::step::EntryStep;
 use doc_names::DocId;
 use edit_ops::{Change, EditNote, RecordedTree, stage};
 use std::alloc::Global;
@@ -48,7 +48,7 @@ fn creation_step(
     note: &EditNote,
     print: Option<Bytes>,
     len: usize,
-) -> Result<Step, NoMemory>
+) -> Result<EntryStep, NoMemory>
     requires brings_part { InsertsElement note.now.change }
     requires print_of_part { IsPrintOf (inserted_element note.now.change) print }
     requires length_exact { len ≡ document_len (inserted_element note.now.change) }
@@ -59,7 +59,7 @@ fn creation_step(
     let tree = PrintedTree::of(noted, print);
     let entry = Entry::new(alloc, number, tree, len)?;
     let key = doc.copy(alloc)?;
-    Ok(Step::Make(key, entry))
+    Ok(EntryStep::Make(key, entry))
 }
 
 // The change record of a creation, and its step.
@@ -70,7 +70,7 @@ fn record_creation(
     root: Element,
     print: Option<Bytes>,
     len: usize,
-) -> Result<(EditNote, Step), NoMemory>
+) -> Result<(EditNote, EntryStep), NoMemory>
     requires print_of_part { IsPrintOf root print }
     requires length_exact { len ≡ document_len root }
     ensures creation_record { IfOk result
@@ -166,7 +166,7 @@ pub(crate) fn prepare_removal(
     Ok(Prepared {
         doc,
         note,
-        step: Step::End,
+        step: EntryStep::End,
         leaves,
         enters: List::empty(alloc),
         total,
@@ -202,14 +202,14 @@ fn edit_step(
     note: &EditNote,
     print: Option<Bytes>,
     len: usize,
-) -> Result<Step, NoMemory>
+) -> Result<EntryStep, NoMemory>
     requires fits { FitsTree root.now note.now.change }
     requires print_of_part { IsInsertedPrint note.now.change print }
     ensures stages_change { IfOk result (λ step. IsEditStep root.now note.now len step) }
 {
     let staged = stage_tree(alloc, root, note, print)?;
     let kept = note.copy()?;
-    Ok(Step::Edit { staged, kept, len })
+    Ok(EntryStep::Edit { staged, kept, len })
 }
 
 // The change record of an edit of a document, and its step.
@@ -220,7 +220,7 @@ fn record_edit(
     change: Change,
     put: Put,
     len: usize,
-) -> Result<(EditNote, Step), NoMemory>
+) -> Result<(EditNote, EntryStep), NoMemory>
     requires fits { FitsTree entry.now.tree.root change }
     requires length_of_part { put.len ≡ min (element_len change) usize.MAX }
     requires print_of_part { IsInsertedPrint change put.print }

@@ -3,7 +3,7 @@
 ghost use Rattle.std.specs.Prelude.{◌≡◌, ℕ, ◌<◌, ◌≤◌, List, Ok};
 ghost use Rattle.xml_tree.specs.Tree.{Tree};
 ghost use Rattle.store_core.specs.State.{State, first_state};
-ghost use Rattle.store_core.specs.Contents.{Represents, StoreContents};
+ghost use Rattle.store_core.specs.Contents.{HasDocumentsOf, Represents, StoreContents};
 ghost use Rattle.store_core.specs.Indexes.{AreIndexTrees};
 ghost use Rattle.store_core.specs.ValidStates.{IsValidState};
 ghost use Rattle.store_core.specs.DocumentChanges.{state_after, change_result, contents_after};
@@ -15,11 +15,14 @@ ghost use Rattle.edit_ops.specs.Notes.{Note};
 ghost use Rattle.store_core.specs.ChangePreconditions.{MayRequest};
 ghost use Rattle.edit_ops.specs.declared.change.Change.{Change};
 
-/// A law: where contents represent a state, the contents after a change represent the state after
-/// that change.
+/// A law: where contents represent a state, or have its documents, the contents after a change
+/// represent the state after that change, or have its documents.
 pub fn stores_stand_after_each_change()
     ensures represents_after { (c : StoreContents) (m : State) (id : DocId) (change : Change)
         → Represents c m → Represents (contents_after c id change) (state_after m id change) }
+    ensures has_documents_after { (c : StoreContents) (m : State) (id : DocId) (change : Change)
+        → HasDocumentsOf c m
+        → HasDocumentsOf (contents_after c id change) (state_after m id change) }
 {}
 
 /// A law: a valid state is valid after each change that suits it.

@@ -1,7 +1,7 @@
 //! A prepared change, which isn't made yet.
 ghost use Rattle.std.specs.Prelude.{◌≡◌, length};
 
-use crate::step::Step;
+use crate::step::EntryStep;
 use doc_names::DocId;
 use edit_ops::EditNote;
 use std::marker::Model;
@@ -14,7 +14,7 @@ use xml_names::{List, Text};
 pub struct Prepared {
     pub(crate) doc: DocId,
     pub(crate) note: EditNote,
-    pub(crate) step: Step,
+    pub(crate) step: EntryStep,
     // The removed and the added service addresses.
     pub(crate) leaves: List<Text>,
     pub(crate) enters: List<Text>,
@@ -27,7 +27,7 @@ impl Model for Prepared {
     ghost use Rattle.std.specs.Coded.{codes};
     ghost use Rattle.doc_names.specs.contracts.doc_id.DocId as d;
     ghost use Rattle.edit_ops.specs.contracts.change.Change as c;
-    ghost use Rattle.store_core.specs.contracts.step.Step as s;
+    ghost use Rattle.store_core.specs.contracts.step.EntryStep as s;
 
     ghost Value = { PreparedChange };
 

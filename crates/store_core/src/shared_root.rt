@@ -13,7 +13,7 @@ use xml_tree::{Element, copy_tree};
 
 /// The root of a tree.
 #[derive(Drop)]
-pub enum Root {
+pub enum SharedRoot {
     /// Nobody shares it.
     Own(Element),
     /// It is the tree of a change record, which others may share.
@@ -21,45 +21,45 @@ pub enum Root {
 }
 
 // A root without a name, as a placeholder for one that is moved out.
-fn nameless_root(alloc: Global) -> Root
+fn nameless_root(alloc: Global) -> SharedRoot
     ensures own_is_unshared { is_unshared result ≡ true }
 {
     let name = Name {
         prefix: Prefix::empty(),
         local: LocalName::empty(),
     };
-    Root::Own(Element::new(alloc, name))
+    SharedRoot::Own(Element::new(alloc, name))
 }
 
 // A copy of a record's root; or that root, when out of memory.
-fn copy_root(alloc: Global, tree: RecordedTree) -> Root
+fn copy_root(alloc: Global, tree: RecordedTree) -> SharedRoot
     ensures same_root { root_view result ≡ tree }
 {
     match copy_tree(alloc, tree.root()) {
-        Ok(copy) => Root::Own(copy),
-        Err(NoMemory) => Root::Noted(tree),
+        Ok(copy) => SharedRoot::Own(copy),
+        Err(NoMemory) => SharedRoot::Noted(tree),
     }
 }
 
 // A record's root, unshared: moved out of the record, if nobody else has that any more, else
 // copied, if there is memory for that.
-fn take_root(alloc: Global, tree: RecordedTree) -> Root
+fn take_root(alloc: Global, tree: RecordedTree) -> SharedRoot
     ensures same_root { root_view result ≡ tree }
 {
     match tree.into_root() {
-        Ok(root) => Root::Own(root),
+        Ok(root) => SharedRoot::Own(root),
         Err(tree) => copy_root(alloc, tree),
     }
 }
 
-impl Root {
+impl SharedRoot {
     /// Borrows the root. Does not allocate.
-    pub(crate) fn lent(&self) -> &Element
+    pub(crate) fn as_element(&self) -> &Element
         ensures exact { result.now ≡ root_view self.now }
     {
         match self {
-            Root::Own(root) => root,
-            Root::Noted(tree) => tree.root(),
+            SharedRoot::Own(root) => root,
+            SharedRoot::Noted(tree) => tree.root(),
         }
     }
 
@@ -68,18 +68,18 @@ impl Root {
         ensures ok { result ≡ is_unshared self.now }
     {
         match self {
-            Root::Own(_) => true,
-            Root::Noted(_) => false,
+            SharedRoot::Own(_) => true,
+            SharedRoot::Noted(_) => false,
         }
     }
 
     // The root, unshared, if there is memory for the copy that may be needed.
-    fn make_unshared(self, alloc: Global) -> Root
+    fn make_unshared(self, alloc: Global) -> SharedRoot
         ensures same_root { root_view result ≡ root_view self }
     {
         match self {
-            Root::Own(root) => Root::Own(root),
-            Root::Noted(tree) => take_root(alloc, tree),
+            SharedRoot::Own(root) => SharedRoot::Own(root),
+            SharedRoot::Noted(tree) => take_root(alloc, tree),
         }
     }
 
@@ -108,8 +108,8 @@ impl Root {
         ensures makes_change { root_view self.new ≡ edited (root_view self.old) change.now }
     {
         match self {
-            Root::Own(root) => apply_staged(root, change, staged),
-            Root::Noted(_) => unreachable!(),
+            SharedRoot::Own(root) => apply_staged(root, change, staged),
+            SharedRoot::Noted(_) => unreachable!(),
         }
     }
 }

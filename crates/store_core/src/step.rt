@@ -23,7 +23,7 @@ pub(crate) type Documents = IndexMap<DocId, Entry>;
 
 /// A step on the entry of a document, with all its memory.
 #[derive(Drop)]
-pub enum Step {
+pub enum EntryStep {
     /// Create the document under this name.
     Make(DocId, Entry),
     /// Make the edit of a change record, after which the document has `len` bytes, and retain the
@@ -111,7 +111,7 @@ fn remove_document(documents: &mut Documents, doc: &DocId)
     documents.shift_remove(doc);
 }
 
-impl Step {
+impl EntryStep {
     ghost use Rattle.store_core.specs.inner.ChangePlans.{CanTakeStep, TakesStep};
 
     /// Makes the step under a number, and returns the number of the document's creation.
@@ -123,15 +123,15 @@ impl Step {
             self result documents.new.entries }
     {
         match self {
-            Step::Make(key, entry) => {
+            EntryStep::Make(key, entry) => {
                 let created = entry.created;
                 append_document(documents, key, entry);
                 created
             }
-            Step::Edit { staged, kept, len } => {
+            EntryStep::Edit { staged, kept, len } => {
                 edit_document(documents, doc, number, staged, kept, len)
             }
-            Step::End => {
+            EntryStep::End => {
                 remove_document(documents, doc);
                 number
             }

@@ -1,2 +1,4 @@
 mod EscapeLemmas
+mod PartLemmas
+mod PieceLemmas
 mod PrintLemmas

@@ -1,2 +1,3 @@
 pub mod AttributeBodyPrints
+pub mod PrintPieces
 pub mod inner

@@ -18,7 +18,7 @@ pub enum EscapeContext {
 
 /// Whether each byte of a text is printed as itself.
 #[inline(always)]
-fn is_plain(place: EscapeContext, bytes: &[u8]) -> bool
+pub(crate) fn is_plain(place: EscapeContext, bytes: &[u8]) -> bool
     ensures plain_unescaped { IsTrue result → flat_map (escaped_char place) bytes.now ≡ bytes.now }
 {
     match place {
@@ -48,7 +48,7 @@ fn reference(place: EscapeContext, byte: u8) -> Option<&'static str>
 /// The index of the first byte that is printed as a reference, and the reference.
 #[inline(always)]
 #[tactic(auto, using(crate::proofs::EscapeLemmas::plain_more))]
-fn first_reference(place: EscapeContext, bytes: &[u8]) -> Option<(usize, &'static str)>
+pub(crate) fn first_reference(place: EscapeContext, bytes: &[u8]) -> Option<(usize, &'static str)>
     ensures is_there { IfSome result (λ first. first.0 < length bytes.now) }
     ensures is_ascii { IfSome result (λ first. get_or bytes.now first.0 0 < 128) }
     ensures plain_in_front { IfSome result

@@ -6,7 +6,12 @@
 #![tactic(auto)]
 
 mod escapes;
+mod lent_print;
 mod output;
+mod parts;
+mod pieces;
 mod printing;
 
+pub use lent_print::LentPrint;
+pub use pieces::{Pieces, print_pieces};
 pub use printing::{is_empty_prefix, print_att_value, print_document, print_element};

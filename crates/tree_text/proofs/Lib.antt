@@ -27,6 +27,7 @@ pub mod ReadParts
 pub mod ReadProper
 pub mod ReadTexts
 pub mod SpaceLemmas
+pub mod SpellingLemmas
 pub mod StackLemmas
 pub mod TagSizes
 pub mod UnboundScopes

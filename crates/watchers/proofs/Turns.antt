@@ -2,8 +2,8 @@
 use Rattle.std.proofs.Common.{◌≡◌, ℕ, ◌+◌, ◌<◌, ◌≤◌, List, [], ◌∷◌, ◌++◌, take, drop, length, get_or, set, remove, Option, inl, inr, refl, ap, sym, subst, ◌∙◌, arith}
 use Rattle.std.proofs.lemmas.Grind.{common_steps}
 use Rattle.edit_ops.specs.declared.edit.Edit.{Edit}
-use Rattle.watchers.specs.declared.watcher.Told.{Told}
 use Rattle.watchers.specs.Notifications.{HasKeptChange, HasLeftAt, AreNotified}
+use Rattle.watchers.specs.WatcherStates.{WatcherState}
 use Rattle.watchers.specs.inner.Notifications.{AreNotifiedUpTo}
 
 -- ---- the item at an index, and the lists before and after it
@@ -29,18 +29,18 @@ module _ {B : Type 0} where
 
 -- ---- the loop that notifies them
 
-module _ {B : Type 0} (told_list : B → Option (List Edit)) (faults : B → ℕ) (never_refuses : B → Type 0) (answers : B → Edit → Told → Type 0) (written : B → Option (List ℕ)) (edit : Edit) where
+module _ {B : Type 0} (state : B → WatcherState) (edit : Edit) where
   abbrev Tells : List B → List B → ℕ → Type 0
-  Tells = AreNotified told_list faults never_refuses answers written edit
+  Tells = AreNotified state edit
 
   abbrev SoFar : List B → List B → ℕ → ℕ → Type 0
-  SoFar = AreNotifiedUpTo told_list faults never_refuses answers written edit
+  SoFar = AreNotifiedUpTo state edit
 
   abbrev Keeps : B → B → Type 0
-  Keeps = HasKeptChange told_list faults never_refuses answers written edit
+  Keeps = HasKeptChange state edit
 
   abbrev Leaves : B → B → Type 0
-  Leaves = HasLeftAt told_list faults never_refuses answers written edit
+  Leaves = HasLeftAt state edit
 
   pub one_kept : (old now : List B) (i left : ℕ) (d b : B) → i < length now → d ≡ get_or now i d → Keeps d b → SoFar old now i left → SoFar old (set now i b) (i + 1) left
   one_kept old now i left d b lt is_at kept so_far = record {

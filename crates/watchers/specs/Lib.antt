@@ -4,5 +4,6 @@ pub mod MirrorContents
 pub mod Mirrors
 pub mod Notifications
 pub mod WatcherResults
+pub mod WatcherStates
 pub mod WrittenLines
 pub mod inner

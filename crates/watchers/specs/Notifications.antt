@@ -2,36 +2,35 @@
 -- the project's own.
 use Rattle.std.specs.Prelude.{◌≡◌, ◌≢◌, ℕ, ◌+◌, ◌≤◌, List, [], ◌∷◌, ◌++◌, Option, ◌⊎◌, option_map}
 use Rattle.edit_ops.specs.declared.edit.Edit.{Edit}
+use Rattle.watchers.specs.WatcherStates.{WatcherState}
 use Rattle.watchers.specs.WrittenLines.{WroteLineIfSeen, with_lines}
 use Rattle.watchers.specs.declared.watcher.Told.{Told}
 use Rattle.watchers.specs.declared.watcher.Told.TheVariants.{Kept}
 
--- the changes reported, with these appended, where contracts see them
+-- the changes notified of, with these appended, where contracts see them
 abbrev pub with_edits : Option (List Edit) → List Edit → Option (List Edit)
-with_edits told edits = option_map (λ es. es ++ edits) told
+with_edits notified edits = option_map (λ es. es ++ edits) notified
 
 abbrev pub with_edit : Option (List Edit) → Edit → Option (List Edit)
-with_edit told edit = with_edits told (edit ∷ [])
+with_edit notified edit = with_edits notified (edit ∷ [])
 
--- B is the type of a watcher, and these are its members.
-module _ {B : Type 0} (told_list : B → Option (List Edit)) (faults : B → ℕ)
-    (never_refuses : B → Type 0) (answers : B → Edit → Told → Type 0)
-    (written : B → Option (List ℕ)) where
+-- B is the type of a watcher, of which contracts see this state.
+module _ {B : Type 0} (state : B → WatcherState) where
   -- a watcher that was notified of a change and kept it
   pub record HasKeptChange (edit : Edit) (old new : B) : Type 0 where
-    pub answered : answers old edit Kept
-    pub told : told_list new ≡ with_edit (told_list old) edit
-    pub wrote : WroteLineIfSeen (written old) edit Kept (written new)
-    pub counts : faults old ≤ faults new
-    pub never : never_refuses old → never_refuses new
+    pub answered : (state old).answers edit Kept
+    pub notified : (state new).notified_changes ≡ with_edit (state old).notified_changes edit
+    pub wrote : WroteLineIfSeen (state old).written edit Kept (state new).written
+    pub counts : (state old).faults ≤ (state new).faults
+    pub never : (state old).never_refuses → (state new).never_refuses
 
   -- a watcher that was notified of a change and returned another result, and its last state
   pub record HasLeftAt (edit : Edit) (old last : B) : Type 0 where
     pub answer : Told
     pub other : answer ≢ Kept
-    pub answered : answers old edit answer
-    pub wrote : WroteLineIfSeen (written old) edit answer (written last)
-    pub refuses : ¬ (never_refuses old)
+    pub answered : (state old).answers edit answer
+    pub wrote : WroteLineIfSeen (state old).written edit answer (state last).written
+    pub refuses : ¬ (state old).never_refuses
 
   -- Each of the watchers was notified of the change, in order; those that kept it stay, in order,
   -- and the others, of this number, left.
@@ -45,10 +44,10 @@ module _ {B : Type 0} (told_list : B → Option (List Edit)) (faults : B → ℕ
   -- A watcher that was notified of these changes and kept each of them: it wrote their lines, in
   -- order, and nothing else.
   pub record HasKeptAllChanges (edits : List Edit) (old new : B) : Type 0 where
-    pub told : told_list new ≡ with_edits (told_list old) edits
-    pub wrote : written new ≡ with_lines (written old) edits
-    pub counts : faults old ≤ faults new
-    pub never : never_refuses old → never_refuses new
+    pub notified : (state new).notified_changes ≡ with_edits (state old).notified_changes edits
+    pub wrote : (state new).written ≡ with_lines (state old).written edits
+    pub counts : (state old).faults ≤ (state new).faults
+    pub never : (state old).never_refuses → (state new).never_refuses
 
   -- A watcher that was notified of the first of these changes, kept each of them, and returned
   -- another result for the next one: of this it wrote what its result says, and it was notified of

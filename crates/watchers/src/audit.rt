@@ -36,15 +36,13 @@ impl<S: Sink> Audit<S> {
 }
 
 impl<S: Sink + Drop> Watcher for Audit<S> {
-    ghost told_list = { λ _. None };
-
-    ghost faults = { λ a. (S.state a.sink).write_faults };
-
-    ghost never_refuses = { λ _. ⊥ };
-
-    ghost answers = { λ _ _ _. ⊤ };
-
-    ghost written = { λ a. Some (S.state a.sink).taken };
+    ghost watcher_state = { λ a. record {
+      notified_changes = None;
+      faults = (S.state a.sink).write_faults;
+      never_refuses = ⊥;
+      answers = λ _ _. ⊤;
+      written = Some (S.state a.sink).taken;
+    } };
 
     ghost holds = { λ _ _. None };
 

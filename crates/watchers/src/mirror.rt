@@ -78,7 +78,6 @@ impl Mirror {
         Some((&held.tree, held.number))
     }
 
-    // Removes a document.
     fn remove_document(&mut self, doc: &DocId)
         ensures document_is_forgotten { find_mirrored self.new doc.now ≡ None }
         ensures other_documents_stay { OthersAreUnchanged self.old doc.now self.new }
@@ -160,15 +159,13 @@ impl Mirror {
 }
 
 impl Watcher for Mirror {
-    ghost told_list = { λ _. None };
-
-    ghost faults = { λ _. 0 };
-
-    ghost never_refuses = { λ _. ⊥ };
-
-    ghost answers = { λ _ _ told. IsNotFailure told };
-
-    ghost written = { λ _. None };
+    ghost watcher_state = { λ _. record {
+      notified_changes = None;
+      faults = 0;
+      never_refuses = ⊥;
+      answers = λ _ told. IsNotFailure told;
+      written = None;
+    } };
 
     ghost holds = { find_mirrored };
 

@@ -9,11 +9,9 @@ use edit_ops::Edit;
 // Notifies a watcher of a change, and returns whether it kept it.
 fn notify(watcher: &mut Box<dyn Watcher>, edit: &Edit) -> bool
     ensures true_has_kept { IsTrue result
-        → HasKeptChange told_list faults never_refuses answers written edit.now watcher.old
-        watcher.new }
+        → HasKeptChange watcher_state edit.now watcher.old watcher.new }
     ensures false_has_left { result ≡ false
-        → HasLeftAt told_list faults never_refuses answers written edit.now watcher.old
-        watcher.new }
+        → HasLeftAt watcher_state edit.now watcher.old watcher.new }
 {
     watcher.told(&edit.doc, &edit.note) == Told::Kept
 }
@@ -22,10 +20,10 @@ fn notify(watcher: &mut Box<dyn Watcher>, edit: &Edit) -> bool
 /// returned something other than `Kept` leave the list, and the others keep their order. Does not
 /// allocate by itself.
 pub fn tell_all(watchers: &mut Vec<Box<dyn Watcher>>, edit: &Edit) -> usize
-    ensures notifies_edit { AreNotified told_list faults never_refuses answers written edit.now
-        watchers.old.items watchers.new.items result }
-    ensures kept_by_watchers { RemainOrLeave told_list faults never_refuses answers written
-        (edit.now ∷ []) watchers.old.items watchers.new.items }
+    ensures notifies_edit { AreNotified watcher_state edit.now watchers.old.items
+        watchers.new.items result }
+    ensures kept_by_watchers { RemainOrLeave watcher_state (edit.now ∷ [])
+        watchers.old.items watchers.new.items }
 {
     let mut kept = 0;
     let mut left = 0;

@@ -60,15 +60,13 @@ impl Recorder {
 }
 
 impl Watcher for Recorder {
-    ghost told_list = { λ edits. Some edits };
-
-    ghost faults = { λ _. 0 };
-
-    ghost never_refuses = { λ _. ⊥ };
-
-    ghost answers = { λ _ _ told. IsNotFailure told };
-
-    ghost written = { λ _. None };
+    ghost watcher_state = { λ edits. record {
+      notified_changes = Some edits;
+      faults = 0;
+      never_refuses = ⊥;
+      answers = λ _ told. IsNotFailure told;
+      written = None;
+    } };
 
     ghost holds = { λ _ _. None };
 

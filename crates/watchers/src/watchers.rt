@@ -29,14 +29,11 @@ pub trait Watchers<E> {
 /// they wrote until then.
 impl Watchers<Edit> for Vec<Box<dyn Watcher>> {
     ghost keeps = { λ edits old new.
-        RemainOrLeave (λ b. (Watcher-box b).told_list b.value) (λ b. (Watcher-box b).faults b.value)
-        (λ b. (Watcher-box b).never_refuses b.value) (λ b. (Watcher-box b).answers b.value)
-        (λ b. (Watcher-box b).written b.value)
-        edits old.items new.items };
+        RemainOrLeave (λ b. (Watcher-box b).watcher_state b.value) edits old.items new.items };
 
-    ghost none = { λ w. no_round _ _ _ _ _ w.items };
+    ghost none = { λ w. no_round _ w.items };
 
-    ghost more = { λ xs ys a b c. more_rounds _ _ _ _ _ xs ys a.items b.items c.items };
+    ghost more = { λ xs ys a b c. more_rounds _ xs ys a.items b.items c.items };
 
     fn notify(&mut self, edit: &Edit) {
         tell_all(self, edit);
@@ -46,12 +43,9 @@ impl Watchers<Edit> for Vec<Box<dyn Watcher>> {
 // Notifies a watcher of a change, and returns whether it kept it.
 fn notify_one<B: Watcher>(watcher: &mut B, edit: &Edit) -> bool
     ensures true_has_kept { IsTrue result
-        → HasKeptChange B.told_list B.faults B.never_refuses B.answers B.written edit.now
-        watcher.old
-        watcher.new }
+        → HasKeptChange B.watcher_state edit.now watcher.old watcher.new }
     ensures false_has_left { result ≡ false
-        → HasLeftAt B.told_list B.faults B.never_refuses B.answers B.written edit.now watcher.old
-        watcher.new }
+        → HasLeftAt B.watcher_state edit.now watcher.old watcher.new }
 {
     watcher.told(&edit.doc, &edit.note) == Told::Kept
 }
@@ -60,13 +54,12 @@ fn notify_one<B: Watcher>(watcher: &mut B, edit: &Edit) -> bool
 /// several are, and does not allocate by itself.
 impl<B: Watcher> Watchers<Edit> for Option<B> {
     ghost keeps = { λ edits old new.
-        RemainOrLeave B.told_list B.faults B.never_refuses B.answers B.written
-        edits (option_to_list old) (option_to_list new) };
+        RemainOrLeave B.watcher_state edits (option_to_list old) (option_to_list new) };
 
-    ghost none = { λ w. no_round _ _ _ _ _ (option_to_list w) };
+    ghost none = { λ w. no_round _ (option_to_list w) };
 
     ghost more = { λ xs ys a b c.
-        more_rounds _ _ _ _ _ xs ys (option_to_list a) (option_to_list b) (option_to_list c) };
+        more_rounds _ xs ys (option_to_list a) (option_to_list b) (option_to_list c) };
 
     fn notify(&mut self, edit: &Edit) {
         let Some(watcher) = self else {

@@ -58,7 +58,7 @@ module _ (input input' : StreamState) (journal journal' : JournalState) (s s' : 
         stood,
         record {
           given = r.given;
-          told = r.told;
+          recorded = r.recorded;
           split = r.split;
           redone = subst (λ (root : List ℕ). AcceptsRequests root (first_state 1) r.requests stood.state) about stood.redone;
           kept = stood.kept;
@@ -75,7 +75,7 @@ module _ (input input' : StreamState) (journal journal' : JournalState) (s s' : 
           records = records.1;
           ended = r.ending.0;
           short = r.ending.1;
-          whole = record { told = r.told; split = sym (take_all MAX_JOURNAL_BYTES r.bytes r.ending.1) ∙ r.split; no_more = r.ending.2 };
+          whole = record { recorded = r.recorded; split = sym (take_all MAX_JOURNAL_BYTES r.bytes r.ending.1) ∙ r.split; no_more = r.ending.2 };
           torn = r.ending.3;
           no_fault = r.faults.0;
         },
@@ -158,7 +158,7 @@ module _ {W : Type 0} (Keeps : List Edit → W → W → Type 0) (address : List
         subst (λ (l : StreamState). ServesPort (StepsInBytes (LoggedStep (ValidStep s.root))) Keeps (record { most = count; served = served }) (record { machine = booked read.state read.requests 0; stream = l; watchers = old.watchers }) (record { machine = booked v.next v.serves.accepted failures; stream = new.port; watchers = new.watchers })) listens
         (subst (λ (n : ℕ). ServesPort (StepsInBytes (LoggedStep (ValidStep s.root))) Keeps (record { most = count; served = served }) (record { machine = booked read.state read.requests 0; stream = listening; watchers = old.watchers }) (record { machine = booked v.next v.serves.accepted n; stream = new.port; watchers = new.watchers })) so v.serves.serves);
     redone = v.redone (first_state 1) redone;
-    told = v.serves.holds.told;
+    recorded = v.serves.holds.recorded;
     written = v.serves.holds.split ∙ ap (λ (l : List ℕ). journal_text v.serves.accepted ++ l) behind;
     behind =
         subst (λ (l : List ℕ). (l ≡ []) ⊎ ((request : Request) × IsRecordable request × AcceptsRequest (ValidStep s.root) v.next request × IsPrefixOf l (record_of request))) behind
@@ -194,7 +194,7 @@ module _ {W : Type 0} (Keeps : List Edit → W → W → Type 0) (P Q : List ℕ
     valid = k.valid;
     serves = k.serves;
     redone = k.redone;
-    told = k.told;
+    recorded = k.recorded;
     written = so (journal_text k.accepted ++ kept.rest) k.written;
     behind = k.behind;
   }
@@ -218,9 +218,9 @@ pub fits_whole : (log : LogState) (journal : JournalState) → log.is_torn ≡ f
 fits_whole log journal whole len = subst (λ (b : Bool). MatchBool b ((log.len ≤ length journal.held) × (0 < journal.faults)) (length journal.held ≡ log.len)) (sym whole) len
 
 pub holds_whole : (Accepted : Request → Type 0) (log : LogState) (requests : List Request) (bytes : List ℕ) → log.is_torn ≡ false → length bytes ≡ log.len → All IsRecordedRequest requests → bytes ≡ journal_text requests → HoldsLog Accepted log requests bytes
-holds_whole Accepted log requests bytes whole len told held = record {
+holds_whole Accepted log requests bytes whole len recorded held = record {
   rest = [];
-  told = told;
+  recorded = recorded;
   split = held ∙ sym (append-nil (journal_text requests));
   len = sym (ap length held) ∙ len;
   behind = subst (λ (b : Bool). MatchBool b ((request : Request) × IsRecordable request × Accepted request × IsPrefixOf [] (record_of request)) (◌≡◌ {A = List ℕ} [] [])) (sym whole) refl;

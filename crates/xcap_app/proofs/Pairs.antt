@@ -52,7 +52,7 @@ module _ {W : Type 0} (Keeps : List Edit → W → W → Type 0) where
         found_end = on.found_end;
         took = on.took;
         serves = on.serves;
-        told = on.kept;
+        notified = on.kept;
         faults = on.faults;
         just_read = just_read input output input' output' t;
         just_written = just_written input output input' output' t;

@@ -130,7 +130,7 @@ module _ {W : Type 0} (Keeps : List Edit → W → W → Type 0) where
         state = r.state;
         edits = r.edits;
         serves = subst (λ (t : Traffic). ServesOne (StepsInBytes (ValidStep root)) fixed_reply Closed (first_state 1) t r.state r.edits) is r.serves;
-        told = r.told;
+        notified = r.notified;
       }
 
   port_done : (arguments : ServiceArguments) (old new : RunState W) → old.port.port.begun ≡ no_connections → old.output.taken ≡ [] → new.port.port.to_come ≡ None
@@ -150,7 +150,7 @@ module _ {W : Type 0} (Keeps : List Edit → W → W → Type 0) where
           state = s.state;
           edits = v.edits;
           serves = subst (λ (l : List Traffic). ServesAll (StepsInBytes (ValidStep root)) fixed_reply (machine_on_stream (first_state 1) port) (machine_on_stream s.state port') l v.edits) (sym all) v.serves;
-          told = v.kept;
+          notified = v.kept;
         },
         counted,
         took_all output.taken output'.taken (served_line served.connections) none_taken takes.taken
@@ -203,7 +203,7 @@ module _ {W : Type 0} (Keeps : List Edit → W → W → Type 0) where
         counted = carried_all served.stop count served.connections (port_traffic port') v.connections (with_listening_address port address) port' untold v.stop complete all v.count;
         all_redone = kept.redone;
         took = took_all output.taken output'.taken (journal_text kept.accepted ++ []) none_taken kept.written ∙ append-nil (journal_text kept.accepted);
-        told = v.kept;
+        notified = v.kept;
       }
 
   by_command : (command : Option Command) (old new : RunState W) → old.port.port.begun ≡ no_connections → old.input.inward.given ≡ [] → old.output.taken ≡ [] → new.port.port.to_come ≡ None

@@ -61,7 +61,7 @@ pub record OldJournal : Type 0 where
 pub record ReadsRecords (root : List ℕ) (journal : OldJournal)
     (input input' : StreamState) : Type 0 where
   pub given : GivesBytes input.inward input'.inward journal.bytes
-  pub told : All IsRecordedRequest journal.requests
+  pub recorded : All IsRecordedRequest journal.requests
   pub split : take MAX_JOURNAL_BYTES journal.bytes ≡ journal_text journal.requests ++ journal.rest
   pub redone : AcceptsRequests root (first_state 1) journal.requests journal.state
   pub kept : IsValidState journal.state
@@ -156,7 +156,7 @@ module _ {W : Type 0} (Keeps : List Edit → W → W → Type 0)
           watchers = new.watchers;
         })
     pub redone : AcceptsRequests arguments.root (first_state 1) accepted next
-    pub told : All IsRecordedRequest accepted
+    pub recorded : All IsRecordedRequest accepted
     pub written : IsWritten (journal_text accepted ++ kept.rest)
     pub behind : (kept.rest ≡ [])
         ⊎ ((request : Request) × IsRecordable request

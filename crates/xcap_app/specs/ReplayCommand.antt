@@ -38,7 +38,7 @@ module _ {W : Type 0} (Keeps : List Edit → W → W → Type 0) where
     pub took : TakesBytes old.output.taken new.output.taken passed.taken
     pub serves : ServesConnection (StepsInBytes (ValidStep root)) fixed_reply ended before passed
         state edits
-    pub told : Keeps edits old.watchers new.watchers
+    pub notified : Keeps edits old.watchers new.watchers
     pub faults : CountsFaultOfReason ended old.input.read_faults new.input.read_faults
         old.output.write_faults new.output.write_faults
     pub just_read : ReadsOnly old.input new.input

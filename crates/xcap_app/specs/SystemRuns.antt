@@ -48,7 +48,7 @@ module _ {W : Type 0} (Keeps : List Edit → W → W → Type 0) where
         (machine_on_stream (first_state 1) old.port) (machine_on_stream state new.port)
         (port_traffic new.port)
         edits
-    pub told : Keeps edits old.watchers new.watchers
+    pub notified : Keeps edits old.watchers new.watchers
 
   -- The machine answered likewise on the one connection of the input and the output, which was
   -- closed.
@@ -62,7 +62,7 @@ module _ {W : Type 0} (Keeps : List Edit → W → W → Type 0) where
           taken = new.output.taken;
         })
         state edits
-    pub told : Keeps edits old.watchers new.watchers
+    pub notified : Keeps edits old.watchers new.watchers
 
   -- The bytes that came in over the input are the records of some requests, and a torn rest, in
   -- which no record is whole; from the state that the requests lead to, the machine answered on
@@ -85,7 +85,7 @@ module _ {W : Type 0} (Keeps : List Edit → W → W → Type 0) where
     pub counted : length (port_traffic new.port) ≡ count
     pub all_redone : AcceptsRequests root (first_state 1) accepted next
     pub took : new.output.taken ≡ journal_text accepted
-    pub told : Keeps edits old.watchers new.watchers
+    pub notified : Keeps edits old.watchers new.watchers
 
   -- what was done, by the command that the words spell
   abbrev pub DoesCommand : Option Command → RunState W → RunState W → Type 0

@@ -14,7 +14,7 @@ use Rattle.xcap_client.specs.declared.body_length.BodyLength.{BodyLength}
 use Rattle.xcap_client.specs.declared.body_length.BodyLength.TheVariants.{Empty, Exactly, ToEnd}
 use Rattle.xcap_client.specs.declared.body_length.TheConstants.{MAX_RESPONSE_BODY_BYTES}
 use Rattle.xcap_client.specs.ReadFaults.{HoldsByCause, response_fault_of}
-use Rattle.xcap_client.specs.BodyLengths.{body_of_extent, NeedsMoreBody}
+use Rattle.xcap_client.specs.BodyLengths.{body_of_length, NeedsMoreBody}
 use Rattle.xcap_client.specs.inner.ReadBuffer.{SettlesValue}
 use Rattle.xcap_client.specs.inner.ResponseBodies.{ReadsBody}
 
@@ -22,17 +22,17 @@ use Rattle.xcap_client.specs.inner.ResponseBodies.{ReadsBody}
 pub no_body : (held : List ℕ) (left : InputState) (body : List ℕ) → body ≡ [] → ReadsBody Empty held left left (Ok body)
 no_body held left body none = record { read = []; given = gave_none left; body = inl (λ more. ap Ok (sym none)) }
 
-module _ (extent : BodyLength) (held held' : List ℕ) (left left' : InputState) (gains : BuffersMore held held' left left') where
+module _ (body_len : BodyLength) (held held' : List ℕ) (left left' : InputState) (gains : BuffersMore held held' left left') where
   -- by the bytes in the buffer then
-  by_held : (result : Result (List ℕ) ResponseFault) → HoldsByCause result (NeedsMoreBody extent held') (SettlesValue (body_of_extent extent) held' left') → ReadsBody extent held left left' result
+  by_held : (result : Result (List ℕ) ResponseFault) → HoldsByCause result (NeedsMoreBody body_len held') (SettlesValue (body_of_length body_len) held' left') → ReadsBody body_len held left left' result
   by_held result is = record {
     read = gains.read;
     given = gains.given;
-    body = subst (λ (h : List ℕ). HoldsByCause result (NeedsMoreBody extent h) (SettlesValue (body_of_extent extent) h left')) gains.added is;
+    body = subst (λ (h : List ℕ). HoldsByCause result (NeedsMoreBody body_len h) (SettlesValue (body_of_length body_len) h left')) gains.added is;
   }
 
   -- reading stopped before they decided
-  pub stopped : (stop : FillError) → NeedsMoreBody extent held' → ReadsBody extent held left left' (Err (response_fault_of stop))
+  pub stopped : (stop : FillError) → NeedsMoreBody body_len held' → ReadsBody body_len held left left' (Err (response_fault_of stop))
   stopped ReadFailed lacks = by_held (Err (response_fault_of ReadFailed)) lacks
   stopped NoMemory lacks = by_held (Err (response_fault_of NoMemory)) tt
 

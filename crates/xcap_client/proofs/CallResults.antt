@@ -16,9 +16,9 @@ use Rattle.xcap_client.specs.ReadFaults.{HoldsByCause}
 use Rattle.xcap_client.specs.inner.FillErrors.{IsFieldFault}
 use Rattle.xcap_client.specs.ResponseHeads.{BeginsWithHead}
 use Rattle.xcap_client.specs.ResponseTags.{IsTagOf}
-use Rattle.xcap_client.specs.BodyLengths.{body_extent, body_of_extent, body_result, NeedsMoreBody}
+use Rattle.xcap_client.specs.BodyLengths.{body_length_of, body_of_length, body_result, NeedsMoreBody}
 use Rattle.xcap_client.specs.inner.ReadBuffer.{IsHeadAt, SettlesValue}
-use Rattle.xcap_client.specs.Responses.{extent_of, response_of, refused, responds, IsDecidedResponse, DecidesNothing, lacks_body, ReadsAnswer}
+use Rattle.xcap_client.specs.Responses.{body_length_of_head, response_of, refused, responds, IsDecidedResponse, DecidesNothing, lacks_body, ReadsAnswer}
 use Rattle.xcap_client.specs.inner.ResponseBodies.{ReadsBody}
 use Rattle.xcap_client.proofs.Fronts.{begins-append}
 
@@ -43,12 +43,12 @@ of_fields (faults.Short have wanted) L S of is = is
 of_fields faults.NoMemory L S of is = absurd of
 
 -- a head that is refused by the bytes after it, or by itself
-said_refused : (given : List ℕ) (left : InputState) (head : ResponseHead) (rest : List ℕ) (fault : ResponseFault) → BeginsWithHead given head rest → SettlesValue (body_result (extent_of head)) rest left (Err fault) → IsDecidedResponse given left.ended (Err fault)
+said_refused : (given : List ℕ) (left : InputState) (head : ResponseHead) (rest : List ℕ) (fault : ResponseFault) → BeginsWithHead given head rest → SettlesValue (body_result (body_length_of_head head)) rest left (Err fault) → IsDecidedResponse given left.ended (Err fault)
 said_refused given left head rest fault begins (inl all) = inl (λ more. refused head (rest ++ more) fault (begins-append given more head rest begins) (all more) refl)
 said_refused given left head rest fault begins (inr is) = inr (is.1.0, refused head rest fault begins is.0 refl)
 
 -- a head whose body is there
-said_responds : (given : List ℕ) (left : InputState) (head : ResponseHead) (rest : List ℕ) (tag : Option (List ℕ)) (body : List ℕ) → BeginsWithHead given head rest → IsTagOf (map name_and_value head.fields) tag → SettlesValue (body_result (extent_of head)) rest left (Ok body)
+said_responds : (given : List ℕ) (left : InputState) (head : ResponseHead) (rest : List ℕ) (tag : Option (List ℕ)) (body : List ℕ) → BeginsWithHead given head rest → IsTagOf (map name_and_value head.fields) tag → SettlesValue (body_result (body_length_of_head head)) rest left (Ok body)
     → IsDecidedResponse given left.ended (Ok (response_of head tag body))
 said_responds given left head rest tag body begins tagged (inl all) = inl (λ more. responds head (rest ++ more) tag body (begins-append given more head rest begins) tagged (all more) refl)
 said_responds given left head rest tag body begins tagged (inr is) = inr (is.1.0, responds head rest tag body begins tagged is.0 refl)
@@ -58,11 +58,11 @@ given_is : (held : List ℕ) (left left' : InputState) → BuffersMore [] held l
 given_is held left left' gains = subst (GivesBytes left left') (sym gains.added) gains.given
 
 -- the fields of the head are the bytes that the spans cover
-pub extent_at : (held : List ℕ) (headers : List HeaderSpan) (spans : ResponseSpans) (head : ResponseHead) → IsHeadAt held headers spans head → body_extent spans.code (map (header_bytes held) (take spans.headers headers)) ≡ extent_of head
-extent_at held headers spans head at = ap (λ (n : ℕ). body_extent n (map (header_bytes held) (take spans.headers headers))) at.parts.code ∙ ap (body_extent (status_code head)) at.parts.fields
+pub body_length_at : (held : List ℕ) (headers : List HeaderSpan) (spans : ResponseSpans) (head : ResponseHead) → IsHeadAt held headers spans head → body_length_of spans.code (map (header_bytes held) (take spans.headers headers)) ≡ body_length_of_head head
+body_length_at held headers spans head at = ap (λ (n : ℕ). body_length_of n (map (header_bytes held) (take spans.headers headers))) at.parts.code ∙ ap (body_length_of (status_code head)) at.parts.fields
 
 -- the head has a fault
-pub answers_refused : (held : List ℕ) (headers : List HeaderSpan) (spans : ResponseSpans) (head : ResponseHead) (fault : ResponseFault) (left left' : InputState) → BuffersMore [] held left left' → IsHeadAt held headers spans head → IsFieldFault fault → extent_of head ≡ Err fault → ReadsAnswer left left' (Err fault)
+pub answers_refused : (held : List ℕ) (headers : List HeaderSpan) (spans : ResponseSpans) (head : ResponseHead) (fault : ResponseFault) (left left' : InputState) → BuffersMore [] held left left' → IsHeadAt held headers spans head → IsFieldFault fault → body_length_of_head head ≡ Err fault → ReadsAnswer left left' (Err fault)
 answers_refused held headers spans head fault left left' gains at of is = record {
   read = held;
   given = given_is held left left' gains;
@@ -70,20 +70,20 @@ answers_refused held headers spans head fault left left' gains at of is = record
 }
 
 -- the body has a fault, or reading it stopped
-pub answers_body_fault : (held : List ℕ) (headers : List HeaderSpan) (spans : ResponseSpans) (head : ResponseHead) (extent : BodyLength) (fault : ResponseFault) (left mid left' : InputState) → BuffersMore [] held left mid → IsHeadAt held headers spans head → extent_of head ≡ Ok extent → ReadsBody extent (drop spans.len held) mid left' (Err fault) → ReadsAnswer left left' (Err fault)
-answers_body_fault held headers spans head extent fault left mid left' gains at is gives =
+pub answers_body_fault : (held : List ℕ) (headers : List HeaderSpan) (spans : ResponseSpans) (head : ResponseHead) (body_len : BodyLength) (fault : ResponseFault) (left mid left' : InputState) → BuffersMore [] held left mid → IsHeadAt held headers spans head → body_length_of_head head ≡ Ok body_len → ReadsBody body_len (drop spans.len held) mid left' (Err fault) → ReadsAnswer left left' (Err fault)
+answers_body_fault held headers spans head body_len fault left mid left' gains at is gives =
     let rest : List ℕ = drop spans.len held ++ gives.read in
     let begins : BeginsWithHead (held ++ gives.read) head rest = begins-append held gives.read head (drop spans.len held) at.begins in
     record {
       read = held ++ gives.read;
       given = gave_on left mid left' held gives.read (given_is held left mid gains) gives.given;
-      answer = by_cause fault (NeedsMoreBody extent rest) (DecidesNothing (held ++ gives.read)) (SettlesValue (body_of_extent extent) rest left') (IsDecidedResponse (held ++ gives.read) left'.ended) (lacks_body head rest extent begins is) (λ e settled. said_refused (held ++ gives.read) left' head rest e begins (subst (λ (x : Result BodyLength ResponseFault). SettlesValue (body_result x) rest left' (Err e)) (sym is) settled)) gives.body;
+      answer = by_cause fault (NeedsMoreBody body_len rest) (DecidesNothing (held ++ gives.read)) (SettlesValue (body_of_length body_len) rest left') (IsDecidedResponse (held ++ gives.read) left'.ended) (lacks_body head rest body_len begins is) (λ e settled. said_refused (held ++ gives.read) left' head rest e begins (subst (λ (x : Result BodyLength ResponseFault). SettlesValue (body_result x) rest left' (Err e)) (sym is) settled)) gives.body;
     }
 
 -- the body is there
-pub answers_response : (held : List ℕ) (headers : List HeaderSpan) (spans : ResponseSpans) (head : ResponseHead) (extent : BodyLength) (tag : Option (List ℕ)) (body : List ℕ) (left mid left' : InputState) → BuffersMore [] held left mid → IsHeadAt held headers spans head → extent_of head ≡ Ok extent
-    → IsTagOf (map (header_bytes held) (take spans.headers headers)) tag → ReadsBody extent (drop spans.len held) mid left' (Ok body) → ReadsAnswer left left' (Ok (record { status = spans.code; tag = tag; body = body }))
-answers_response held headers spans head extent tag body left mid left' gains at is tagged gives =
+pub answers_response : (held : List ℕ) (headers : List HeaderSpan) (spans : ResponseSpans) (head : ResponseHead) (body_len : BodyLength) (tag : Option (List ℕ)) (body : List ℕ) (left mid left' : InputState) → BuffersMore [] held left mid → IsHeadAt held headers spans head → body_length_of_head head ≡ Ok body_len
+    → IsTagOf (map (header_bytes held) (take spans.headers headers)) tag → ReadsBody body_len (drop spans.len held) mid left' (Ok body) → ReadsAnswer left left' (Ok (record { status = spans.code; tag = tag; body = body }))
+answers_response held headers spans head body_len tag body left mid left' gains at is tagged gives =
     let rest : List ℕ = drop spans.len held ++ gives.read in
     let given : List ℕ = held ++ gives.read in
     let begins : BeginsWithHead given head rest = begins-append held gives.read head (drop spans.len held) at.begins in

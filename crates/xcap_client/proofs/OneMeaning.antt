@@ -11,7 +11,7 @@ use Rattle.xcap_client.specs.declared.response.Response.{Response}
 use Rattle.xcap_client.specs.ResponseHeads.{BeginsWithHead}
 use Rattle.xcap_client.specs.ResponseTags.{HasTag, IsEntityTagOf, IsTagOf}
 use Rattle.xcap_client.specs.BodyLengths.{body_result}
-use Rattle.xcap_client.specs.Responses.{extent_of, response_of, IsResponseOf, no_head, refused, responds}
+use Rattle.xcap_client.specs.Responses.{body_length_of_head, response_of, IsResponseOf, no_head, refused, responds}
 use Rattle.xcap_client.proofs.QuoteLemmas.{one_value}
 
 abbrev first_of_text : List ℕ → ℕ
@@ -46,10 +46,10 @@ tag_is_one fields (Some t) None one two = absurd (two t one)
 tag_is_one fields (Some t) (Some u) one two = ap (λ (x : List ℕ). Some x) (gives_one fields t u one two)
 
 -- two heads at the front of the same bytes are equal, and so are the bytes after them
-same_body : (bytes : List ℕ) (head other : ResponseHead) (rest behind : List ℕ) → BeginsWithHead bytes head rest → BeginsWithHead bytes other behind → (head ≡ other) × (body_result (extent_of head) rest ≡ body_result (extent_of other) behind)
+same_body : (bytes : List ℕ) (head other : ResponseHead) (rest behind : List ℕ) → BeginsWithHead bytes head rest → BeginsWithHead bytes other behind → (head ≡ other) × (body_result (body_length_of_head head) rest ≡ body_result (body_length_of_head other) behind)
 same_body bytes head other rest behind one two =
     let same = response_unique bytes head other rest behind one.reads two.reads in
-    (same.0, ap (λ (h : ResponseHead). body_result (extent_of h) rest) same.0 ∙ ap (body_result (extent_of other)) same.1)
+    (same.0, ap (λ (h : ResponseHead). body_result (body_length_of_head h) rest) same.0 ∙ ap (body_result (body_length_of_head other)) same.1)
 
 err_is : (f g : ResponseFault) (r s : Result (List ℕ) ResponseFault) → r ≡ s → r ≡ Err f → s ≡ Err g → f ≡ g
 err_is f g r s same one two = let e : Err f ≡ s = sym one ∙ same in let e' = e ∙ two in cc

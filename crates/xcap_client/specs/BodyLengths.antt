@@ -22,33 +22,33 @@ exact_body_length n = if nat_lt MAX_RESPONSE_BODY_BYTES n then Err (TooLong n) e
 
 -- By the values of `Content-Length`: without one the body goes to the end of the bytes; more than
 -- one, or one that is no number, is a fault, also where a status has no body.
-unfoldable pub extent_by_length : Bool → List (List ℕ) → Result BodyLength ResponseFault
-extent_by_length bodiless [] = if bodiless then Ok Empty else Ok ToEnd
-extent_by_length bodiless (value ∷ []) =
+unfoldable pub length_by_field : Bool → List (List ℕ) → Result BodyLength ResponseFault
+length_by_field bodiless [] = if bodiless then Ok Empty else Ok ToEnd
+length_by_field bodiless (value ∷ []) =
     if not (is_number value) then Err Length
     else if bodiless then Ok Empty else exact_body_length (capped_value value)
-extent_by_length bodiless (value ∷ other ∷ more) = Err Length
+length_by_field bodiless (value ∷ other ∷ more) = Err Length
 
 -- By the status, and the names and values of the fields. No transfer coding is accepted. No
 -- Content (204) and Not Modified (304) come without a body.
-unfoldable pub body_extent : ℕ → List (List ℕ × List ℕ) → Result BodyLength ResponseFault
-body_extent status fields =
+unfoldable pub body_length_of : ℕ → List (List ℕ × List ℕ) → Result BodyLength ResponseFault
+body_length_of status fields =
     if nat_lt 0 (length (field_values (codes "transfer-encoding") fields)) then Err Coding
-    else extent_by_length ((status == 204) || (status == 304))
+    else length_by_field ((status == 204) || (status == 304))
     (field_values (codes "content-length") fields)
 
 -- the body, where these are all bytes after the head
-abbrev pub body_of_extent : BodyLength → List ℕ → Result (List ℕ) ResponseFault
-body_of_extent Empty rest = Ok []
-body_of_extent (Exactly n) rest =
+abbrev pub body_of_length : BodyLength → List ℕ → Result (List ℕ) ResponseFault
+body_of_length Empty rest = Ok []
+body_of_length (Exactly n) rest =
     if nat_lt (length rest) n then Err (Short (length rest) n) else Ok (take n rest)
-body_of_extent ToEnd rest =
+body_of_length ToEnd rest =
     if nat_lt MAX_RESPONSE_BODY_BYTES (length rest) then Err (TooLong (MAX_RESPONSE_BODY_BYTES + 1))
     else Ok rest
 
 -- the body, where the head may have a fault
 abbrev pub body_result : Result BodyLength ResponseFault → List ℕ → Result (List ℕ) ResponseFault
-body_result (Ok extent) rest = body_of_extent extent rest
+body_result (Ok body_len) rest = body_of_length body_len rest
 body_result (Err fault) rest = Err fault
 
 -- these bytes after the head don't decide: more are due, or their end

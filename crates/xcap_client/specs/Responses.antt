@@ -13,11 +13,11 @@ use Rattle.xcap_client.specs.declared.response.Response.{Response}
 use Rattle.xcap_client.specs.ReadFaults.{HoldsByCause}
 use Rattle.xcap_client.specs.ResponseHeads.{BeginsWithHead, HasNoHead}
 use Rattle.xcap_client.specs.ResponseTags.{IsTagOf}
-use Rattle.xcap_client.specs.BodyLengths.{body_extent, body_result, NeedsMoreBody}
+use Rattle.xcap_client.specs.BodyLengths.{body_length_of, body_result, NeedsMoreBody}
 
 -- the length of the body after the head
-abbrev pub extent_of : ResponseHead → Result BodyLength ResponseFault
-extent_of head = body_extent (status_code head) (map name_and_value head.fields)
+abbrev pub body_length_of_head : ResponseHead → Result BodyLength ResponseFault
+body_length_of_head head = body_length_of (status_code head) (map name_and_value head.fields)
 
 -- the response with that head, tag and body
 abbrev pub response_of : ResponseHead → Option (List ℕ) → List ℕ → Response
@@ -29,11 +29,12 @@ pub data IsResponseOf (bytes : List ℕ) (answer : Result Response ResponseFault
   no_head : HasNoHead bytes → answer ≡ Err Head → IsResponseOf bytes answer
   refused : (head : ResponseHead) (rest : List ℕ) (fault : ResponseFault)
       → BeginsWithHead bytes head rest
-      → body_result (extent_of head) rest ≡ Err fault → answer ≡ Err fault
+      → body_result (body_length_of_head head) rest ≡ Err fault → answer ≡ Err fault
       → IsResponseOf bytes answer
   responds : (head : ResponseHead) (rest : List ℕ) (tag : Option (List ℕ)) (body : List ℕ)
       → BeginsWithHead bytes head rest
-      → IsTagOf (map name_and_value head.fields) tag → body_result (extent_of head) rest ≡ Ok body
+      → IsTagOf (map name_and_value head.fields) tag
+      → body_result (body_length_of_head head) rest ≡ Ok body
       → answer ≡ Ok (response_of head tag body) → IsResponseOf bytes answer
 
 -- These bytes were given, and this is the meaning of the connection's bytes: however they go on,
@@ -46,9 +47,9 @@ IsDecidedResponse given ended answer =
 -- These bytes don't decide the meaning: there is no head in them, or more of the body is due.
 pub data DecidesNothing (bytes : List ℕ) : Type 0 where
   lacks_head : HasNoHead bytes → DecidesNothing bytes
-  lacks_body : (head : ResponseHead) (rest : List ℕ) (extent : BodyLength)
+  lacks_body : (head : ResponseHead) (rest : List ℕ) (body_len : BodyLength)
       → BeginsWithHead bytes head rest
-      → extent_of head ≡ Ok extent → NeedsMoreBody extent rest → DecidesNothing bytes
+      → body_length_of_head head ≡ Ok body_len → NeedsMoreBody body_len rest → DecidesNothing bytes
 
 -- Bytes were read from the source, and the result is their meaning; where a read failed, they
 -- don't decide.

@@ -4,8 +4,8 @@ ghost use Rattle.std.specs.Prelude.{if◌then◌else◌};
 ghost use Rattle.httparse.specs.Spans.{IsHeaderWithin, header_bytes};
 ghost use Rattle.http_wire.specs.Fields.{is_number, IsLookupOf};
 ghost use Rattle.xcap_client.specs.inner.FillErrors.{IsFieldFault};
-ghost use Rattle.xcap_client.specs.BodyLengths.{capped_value, exact_body_length, extent_by_length};
-ghost use Rattle.xcap_client.specs.BodyLengths.{body_extent};
+ghost use Rattle.xcap_client.specs.BodyLengths.{capped_value, exact_body_length, length_by_field};
+ghost use Rattle.xcap_client.specs.BodyLengths.{body_length_of};
 
 use crate::ResponseFault;
 use http_wire::{FieldLookup, find_field};
@@ -47,7 +47,7 @@ fn capped_number(digits: &[u8]) -> Option<u64>
 }
 
 fn exact_body_length(len: u64) -> Result<BodyLength, ResponseFault>
-    ensures fields_extent { result ≡ exact_body_length len }
+    ensures fields_length { result ≡ exact_body_length len }
     ensures err_of_fields { IfErr result IsFieldFault }
 {
     if len > MAX_RESPONSE_BODY_BYTES as u64 {
@@ -56,9 +56,9 @@ fn exact_body_length(len: u64) -> Result<BodyLength, ResponseFault>
     Ok(BodyLength::Exactly(len as usize))
 }
 
-#[tactic(auto, unfolding(crate::specs::BodyLengths::extent_by_length))]
+#[tactic(auto, unfolding(crate::specs::BodyLengths::length_by_field))]
 fn single_length(bodiless: bool, value: &[u8]) -> Result<BodyLength, ResponseFault>
-    ensures fields_extent { result ≡ extent_by_length bodiless (value.now ∷ []) }
+    ensures fields_length { result ≡ length_by_field bodiless (value.now ∷ []) }
     ensures err_of_fields { IfErr result IsFieldFault }
 {
     match capped_number(value) {
@@ -68,11 +68,11 @@ fn single_length(bodiless: bool, value: &[u8]) -> Result<BodyLength, ResponseFau
     }
 }
 
-#[tactic(auto, unfolding(crate::specs::BodyLengths::extent_by_length))]
-fn extent_by_length(bodiless: bool, lengths: FieldLookup) -> Result<BodyLength, ResponseFault>
+#[tactic(auto, unfolding(crate::specs::BodyLengths::length_by_field))]
+fn length_by_field(bodiless: bool, lengths: FieldLookup) -> Result<BodyLength, ResponseFault>
     ensures err_of_fields { IfErr result IsFieldFault }
-    ensures fields_extent { (values : List (List ℕ)) → IsLookupOf lengths.entry values
-        → result ≡ extent_by_length bodiless values }
+    ensures fields_length { (values : List (List ℕ)) → IsLookupOf lengths.entry values
+        → result ≡ length_by_field bodiless values }
 {
     match lengths {
         FieldLookup::Absent if bodiless => Ok(BodyLength::Empty),
@@ -83,7 +83,7 @@ fn extent_by_length(bodiless: bool, lengths: FieldLookup) -> Result<BodyLength, 
 }
 
 // The length of the body after a head with this status.
-#[tactic(auto, unfolding(crate::specs::BodyLengths::body_extent))]
+#[tactic(auto, unfolding(crate::specs::BodyLengths::body_length_of))]
 pub fn read_body_length(
     buf: &[u8],
     headers: &[HeaderSpan],
@@ -91,11 +91,12 @@ pub fn read_body_length(
 ) -> Result<BodyLength, ResponseFault>
     requires { All (IsHeaderWithin (length buf.now)) headers.now }
     ensures err_of_fields { IfErr result IsFieldFault }
-    ensures fields_extent { result ≡ body_extent status (map (header_bytes buf.now) headers.now) }
+    ensures fields_length { result
+        ≡ body_length_of status (map (header_bytes buf.now) headers.now) }
 {
     let FieldLookup::Absent = find_field(buf, headers, b"transfer-encoding") else {
         return Err(ResponseFault::Coding);
     };
     let bodiless = status == 204 || status == 304;
-    extent_by_length(bodiless, find_field(buf, headers, b"content-length"))
+    length_by_field(bodiless, find_field(buf, headers, b"content-length"))
 }

@@ -67,15 +67,15 @@ fn read_body<S: Source>(
     alloc: Global,
     source: &mut S,
     read_buffer: ReadBuffer,
-    extent: BodyLength,
+    body_len: BodyLength,
 ) -> Result<Bytes, ResponseFault>
-    ensures gives_body { ReadsBody extent read_buffer (S.state source.old).inward
+    ensures gives_body { ReadsBody body_len read_buffer (S.state source.old).inward
         (S.state source.new).inward result }
     ensures only_reads { DiffersByReads (S.state source.old) (S.state source.new) }
     ensures faults_never_fall { CountsReadFault (S.state source.old).read_faults
         (S.state source.new).read_faults result }
 {
-    match extent {
+    match body_len {
         BodyLength::Empty => Ok(Bytes::new(alloc)),
         BodyLength::Exactly(len) => read_exactly(source, read_buffer, len),
         BodyLength::ToEnd => read_to_end(source, read_buffer),
@@ -103,10 +103,10 @@ pub fn read_response<S: Source>(alloc: Global, source: &mut S) -> Result<Respons
         return Err(ResponseFault::Head);
     };
     let fields = &headers[..spans.headers];
-    let extent = read_body_length(read_buffer.bytes(), fields, spans.code)?;
+    let body_len = read_body_length(read_buffer.bytes(), fields, spans.code)?;
     let tag = read_tag(alloc, read_buffer.bytes(), fields)?;
     read_buffer.consume(spans.len);
-    let body = read_body(alloc, source, read_buffer, extent)?;
+    let body = read_body(alloc, source, read_buffer, body_len)?;
     Ok(Response {
         status: spans.code,
         tag,

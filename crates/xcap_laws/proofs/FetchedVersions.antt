@@ -28,7 +28,7 @@ use Rattle.store_core.specs.DocumentChanges.{find_document, document_id, stored_
 use Rattle.store_core.specs.Since.{ReportedChanges, notes_from}
 use Rattle.store_core.specs.inner.ChangesSince.{stored_changes_since, changes_since_of}
 use Rattle.store_core.specs.State.{Document, State}
-use Rattle.store_core.specs.ValidStates.{IsValidDocument, IsSoundDocumentFor, IsUserHome, IsValidState}
+use Rattle.store_core.specs.ValidStates.{IsValidHistory, IsSoundDocumentFor, IsUserHome, IsValidState}
 use Rattle.xcap_uri.specs.Targets.{IsTargetResult}
 use Rattle.xcap_uri.specs.declared.fault.UriFault.{UriFault}
 use Rattle.xcap_uri.specs.declared.target.Target.{Target}
@@ -72,7 +72,7 @@ module _ (c : StoreContents) (m : State) (id : DocId) (request : Request) (a : A
       let mapped : option_map stored_document (find_document document_id m.documents id) ≡ Some h = sym (held_there m.documents id) ∙ ap (λ (x : StoreContents). find_document stored_id x.documents id) (sym stands) ∙ held in
       let r = stored_as (find_document document_id m.documents id) h mapped in
       let d = r.0 in
-      let kept_so : IsValidDocument m.next d = found_all (IsValidDocument m.next) (λ x. same_id id x.id) m.documents d kept.documents r.1 in
+      let kept_so : IsValidHistory m.next d = found_all (IsValidHistory m.next) (λ x. same_id id x.id) m.documents d kept.documents r.1 in
       let here : a ≡ reply_only (found_reply (Some d.now.tag) (document_media_type id.auid) (encode_utf8_all (document_print d.now.tree)) request.closes) =
       is ∙ ap (λ (x : StoredDocument). reply_only (found_reply (Some x.tag) (document_media_type id.auid) (encode_utf8_all (document_print x.tree)) request.closes)) (sym r.2) in
       let body : a.reply.body ≡ encode_utf8_all (document_print d.now.tree) = ap (λ (x : Answer). x.reply.body) here in

@@ -16,7 +16,7 @@ use Rattle.reply_text.specs.ReplyHeads.{HeadFields, SentReply, reply_bytes, sent
 use Rattle.request_checks.specs.declared.method.Method.TheVariants.{Get, Head}
 use Rattle.store_core.specs.Contents.{contents_of}
 use Rattle.store_core.specs.State.{Document, State, Version, versions}
-use Rattle.store_core.specs.ValidStates.{IsValidDocument, IsUserHome, IsValidState}
+use Rattle.store_core.specs.ValidStates.{IsValidHistory, IsUserHome, IsValidState}
 use Rattle.patch_rules.specs.Replay.{ReplicaContents}
 use Rattle.patch_apply.specs.Views.{replica_view}
 use Rattle.patch_apply.specs.declared.replica.ReplicaVersion.{ReplicaVersion}
@@ -159,7 +159,7 @@ some_tag next (x ∷ vs) (suc k) v h is = some_tag next vs k v h.1 is
 
 has_tag : (m : State) (id : DocId) (v : Version) → IsValidState m → HasVersion m id v → 1 ≤ v.tag
 has_tag m id v kept h =
-    let d : IsValidDocument m.next h.document = found_all (IsValidDocument m.next) (λ x. same_id id x.id) m.documents h.document kept.documents h.there in
+    let d : IsValidHistory m.next h.document = found_all (IsValidHistory m.next) (λ x. same_id id x.id) m.documents h.document kept.documents h.there in
     some_tag m.next (versions h.document) h.number v d.tags h.is_version
 
 -- the tag of a replica

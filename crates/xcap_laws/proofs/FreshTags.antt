@@ -14,7 +14,7 @@ use Rattle.std.specs.Prelude.{Bool}
 use Rattle.store_core.specs.Contents.{StoredDocument, StoreContents as Content, contents_of}
 use Rattle.store_core.specs.DocumentChanges.{ChangeKind, Makes, Edits, Removes, change_kind, state_after_by_kind, refusal_of, refusal_or, contents_after, find_document, note_for, stored_id}
 use Rattle.store_core.specs.State.{State, Version, versions}
-use Rattle.store_core.specs.ValidStates.{IsValidDocument, IsValidState}
+use Rattle.store_core.specs.ValidStates.{IsValidHistory, IsValidState}
 use Rattle.store_core.specs.declared.refusal.StoreRefusal.{StoreRefusal}
 use Rattle.xcap_machine.specs.Answers.{Answer, MadeChange}
 use Rattle.xcap_machine.specs.Machine.{Step, ValidStep, state_after_answer, answer_with_edit, change_from_edit}
@@ -96,7 +96,7 @@ tag_at next (x ∷ vs) (suc k) v h is = tag_at next vs k v h.1 is
 
 pub low_tag : (m : State) (id : DocId) (v : Version) → IsValidState m → HasVersion m id v → v.tag < m.next
 low_tag m id v kept h =
-    let d : IsValidDocument m.next h.document = found_all (IsValidDocument m.next) (λ x. same_id id x.id) m.documents h.document kept.documents h.there in
+    let d : IsValidHistory m.next h.document = found_all (IsValidHistory m.next) (λ x. same_id id x.id) m.documents h.document kept.documents h.there in
     tag_at m.next (versions h.document) h.number v d.tags h.is_version
 
 pub above_versions : (root : List ℕ) (m n next : State) (id : DocId) (v : Version) (request : Request) (reply : SentReply) (e : Edit) → HasVersion m id v → ReachesByValidSteps root m n → ValidStep root n request reply next (Some e) → v.tag < e.note.next

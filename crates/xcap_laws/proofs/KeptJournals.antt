@@ -61,12 +61,12 @@ written_as : (root bytes bytes' : List ℕ) → bytes ≡ bytes' → Written roo
 written_as root bytes bytes' same w = subst (λ (x : List ℕ). Written root x) (sym same) w
 
 nothing_written : (root : List ℕ) → Written root []
-nothing_written root = ([], first_state 1, record { told = All-nil IsRecordedRequest; redone = refl; begins = ([], refl) })
+nothing_written root = ([], first_state 1, record { recorded = All-nil IsRecordedRequest; redone = refl; begins = ([], refl) })
 
 module _ (root : List ℕ) (journal : OldJournal) (input input' : StreamState) (records : ReadsRecords root journal input input') where
   -- first bytes of the records that were read
   some_written : (bytes : List ℕ) → IsPrefixOf bytes (journal_text journal.requests) → Written root bytes
-  some_written bytes begins = (journal.requests, journal.state, record { told = records.told; redone = records.redone; begins = begins })
+  some_written bytes begins = (journal.requests, journal.state, record { recorded = records.recorded; redone = records.redone; begins = begins })
 
   all_written : Written root (journal_text journal.requests)
   all_written = some_written (journal_text journal.requests) ([], sym (append-nil (journal_text journal.requests)))
@@ -91,7 +91,7 @@ stopped root faults.NoMemory journal old new bytes records (before, more, is, al
     (some_written root journal old.input new.input records (journal_text before) (journal_text more, ap journal_text is ∙ journal_text-append before more))
 
 -- the records of accepted requests, and after them at most some first bytes of one more
-module _ (root : List ℕ) (accepted : List Request) (next : State) (valid : IsValidState next) (redone : AcceptsRequests root (first_state 1) accepted next) (told : All IsRecordedRequest accepted) where
+module _ (root : List ℕ) (accepted : List Request) (next : State) (valid : IsValidState next) (redone : AcceptsRequests root (first_state 1) accepted next) (recorded : All IsRecordedRequest accepted) where
   abbrev server : ServerState
   server = record { root = root; content = contents_of next }
 
@@ -104,18 +104,18 @@ module _ (root : List ℕ) (accepted : List Request) (next : State) (valid : IsV
   logs : (rest : List ℕ) (request : Request) → IsRecordable request → AcceptsRequest (ValidStep root) next request → IsPrefixOf rest (record_of request) → LogsRequests server torn_log (journal_of rest) accepted
   logs rest request can accepts begins = record {
     stands = record { state = next; kept = valid; redone = redone; stands = refl };
-    holds = record { rest = rest; told = told; split = refl; len = refl; behind = (request, can, accepts, begins) };
+    holds = record { rest = rest; recorded = recorded; split = refl; len = refl; behind = (request, can, accepts, begins) };
   }
 
   torn_written : (rest : List ℕ) (request : Request) → IsRecordable request → AcceptsRequest (ValidStep root) next request → IsPrefixOf rest (record_of request) → Written root (journal_text accepted ++ rest)
   torn_written rest request can accepts begins =
       let all = comes_to_a_state server torn_log (journal_of rest) accepted (journal_text accepted ++ rest) (logs rest request can accepts begins) ([], sym (append-nil (journal_text accepted ++ rest))) in
-      (accepted ++ all.0, all.1, record { told = all.4; redone = all.5; begins = all.6 })
+      (accepted ++ all.0, all.1, record { recorded = all.4; redone = all.5; begins = all.6 })
 
   pub accepted_written : (rest : List ℕ)
       → ((rest ≡ []) ⊎ ((request : Request) × IsRecordable request × AcceptsRequest (ValidStep root) next request × IsPrefixOf rest (record_of request))) → Written root (journal_text accepted ++ rest)
   accepted_written rest (inl none) =
-      (accepted, next, record { told = told; redone = redone; begins = ([], sym (append-nil (journal_text accepted)) ∙ ap (λ (l : List ℕ). journal_text accepted ++ l) (sym none) ∙ sym (append-nil (journal_text accepted ++ rest))) })
+      (accepted, next, record { recorded = recorded; redone = redone; begins = ([], sym (append-nil (journal_text accepted)) ∙ ap (λ (l : List ℕ). journal_text accepted ++ l) (sym none) ∙ sym (append-nil (journal_text accepted ++ rest))) })
   accepted_written rest (inr (request, can, accepts, begins)) = torn_written rest request can accepts begins
 
 module _ {W : Type 0} (Keeps : List Edit → W → W → Type 0) where
@@ -123,7 +123,7 @@ module _ {W : Type 0} (Keeps : List Edit → W → W → Type 0) where
       → ServesLoggedConnections Keeps (TakesBytes taken taken') HasFailed arguments kept journal old new → TakesBytes taken taken' bytes → Written arguments.root bytes
   served_written arguments kept journal old new taken taken' bytes HasFailed s took =
       written_as arguments.root bytes (journal_text s.accepted ++ kept.rest) (took_alike taken taken' bytes (journal_text s.accepted ++ kept.rest) took s.written)
-      (accepted_written arguments.root s.accepted s.next s.valid s.redone s.told kept.rest s.behind)
+      (accepted_written arguments.root s.accepted s.next s.valid s.redone s.recorded kept.rest s.behind)
 
   kept_written : (arguments : ServiceArguments) (exit : Exit) (journal : OldJournal) (old new : ServiceState W) (input input' : StreamState) (taken taken' bytes : List ℕ) (HasFailed : Type 0)
       → ReadsRecords arguments.root journal input input' → EndsKeep Keeps (TakesBytes taken taken') HasFailed arguments exit journal old new → TakesBytes taken taken' bytes → Written arguments.root bytes
@@ -156,7 +156,7 @@ module _ {W : Type 0} (Keeps : List Edit → W → W → Type 0) where
 
 module _ (root written : List ℕ) (all : List Request) (last : State) (is : IsWrittenJournal root written all last) where
   -- the requests that were read are the first of all, and the others go on from their state
-  module _ (requests : List Request) (rest bytes : List ℕ) (state : State) (told : All IsRecordedRequest requests) (redone : AcceptsRequests root (first_state 1) requests state) (split : bytes ≡ journal_text requests ++ rest)
+  module _ (requests : List Request) (rest bytes : List ℕ) (state : State) (recorded : All IsRecordedRequest requests) (redone : AcceptsRequests root (first_state 1) requests state) (split : bytes ≡ journal_text requests ++ rest)
       (begins : IsPrefixOf bytes written) where
     in_all : IsPrefixOf bytes (journal_text all)
     in_all = first_of_first bytes written (journal_text all) begins is.begins
@@ -167,11 +167,11 @@ module _ (root written : List ℕ) (all : List Request) (last : State) (is : IsW
         subst (λ (s : State). AcceptsRequests root s left last) (one_way root requests (first_state 1) way.0 state way.1 redone) way.2
 
     alike : (left : List Request) × (all ≡ requests ++ left) × (journal_text left ≡ rest ++ in_all.0) × All IsRecordedRequest left
-    alike = begin_alike requests all (rest ++ in_all.0) told is.told (in_all.1 ∙ ap (λ (l : List ℕ). l ++ in_all.0) split ∙ append_assoc (journal_text requests) rest in_all.0)
+    alike = begin_alike requests all (rest ++ in_all.0) recorded is.recorded (in_all.1 ∙ ap (λ (l : List ℕ). l ++ in_all.0) split ∙ append_assoc (journal_text requests) rest in_all.0)
 
     undamaged : IsDamaged rest → ⊥
     undamaged (none, not_torn) =
-        let broken = breaks_off all requests bytes rest is.told in_all (record { told = told; split = split; no_more = none }) in
+        let broken = breaks_off all requests bytes rest is.recorded in_all (record { recorded = recorded; split = split; no_more = none }) in
         not_torn (is_torn broken.0 rest broken.2 broken.1.torn)
 
     -- the next request makes a change
@@ -197,10 +197,10 @@ module _ {W : Type 0} (Keeps : List Edit → W → W → Type 0) where
   bad_stop arguments faults.ReadFailed refusal old new journal written all last is begins records stops e = absurd (let no : ⊥ = cc in no)
   bad_stop arguments faults.AppendFailed refusal old new journal written all last is begins records stops e = absurd (let no : ⊥ = cc in no)
   bad_stop arguments (faults.Damaged place) refusal old new journal written all last is begins records stops e =
-      absurd (undamaged arguments.root written all last is journal.requests journal.rest (take MAX_JOURNAL_BYTES journal.bytes) journal.state records.told records.redone records.split begins stops.1)
+      absurd (undamaged arguments.root written all last is journal.requests journal.rest (take MAX_JOURNAL_BYTES journal.bytes) journal.state records.recorded records.redone records.split begins stops.1)
   bad_stop arguments (faults.Refused number) refusal old new journal written all last is begins records stops e =
       let (request, more, reply, front, answers) = stops.2 in
-      absurd (accepted arguments.root written all last is journal.requests journal.rest (take MAX_JOURNAL_BYTES journal.bytes) journal.state records.told records.redone records.split begins request more reply front answers)
+      absurd (accepted arguments.root written all last is journal.requests journal.rest (take MAX_JOURNAL_BYTES journal.bytes) journal.state records.recorded records.redone records.split begins request more reply front answers)
   bad_stop arguments faults.TooLong refusal old new journal written all last is begins records stops e = let same : refusals.TooLong ≡ refusal = cc in sym same
   bad_stop arguments faults.NoMemory refusal old new journal written all last is begins records stops e = absurd (let no : ⊥ = cc in no)
 
@@ -208,11 +208,11 @@ module _ {W : Type 0} (Keeps : List Edit → W → W → Type 0) where
   only_too_long : (arguments : ServiceArguments) (exit : Exit) (old new : KeepState W) (written bytes : List ℕ) (all : List Request) (last : State) → IsWrittenJournal arguments.root written all last
       → IsPrefixOf bytes written → GivesBytes old.input.inward new.input.inward bytes → KeepsCommand Keeps arguments exit old new → (refusal : JournalRefusal) → exit ≡ BadJournal refusal → refusal ≡ refusals.TooLong
   only_too_long arguments exit old new written bytes all last is begins gave (no_server out same) refusal e = absurd (let no : OutOfMemory ≡ BadJournal refusal = sym out ∙ e in let f : ⊥ = cc in f)
-  only_too_long arguments exit old new written bytes all last is begins gave (no_journal fault (inl told) read port watchers) refusal e =
+  only_too_long arguments exit old new written bytes all last is begins gave (no_journal fault (inl recorded) read port watchers) refusal e =
       let same : bytes ≡ read.journal.bytes = append_cancel_left old.input.inward.given bytes read.journal.bytes (sym gave.behind ∙ read.records.given.behind) in
       bad_stop arguments fault refusal (keep_journals old) (keep_journals new) read.journal written all last is
       (first_of_first (take MAX_JOURNAL_BYTES read.journal.bytes) bytes written (subst (λ (x : List ℕ). IsPrefixOf (take MAX_JOURNAL_BYTES read.journal.bytes) x) (sym same) (front_of read.journal.bytes)) begins)
-      read.records read.stops (sym told ∙ e)
+      read.records read.stops (sym recorded ∙ e)
     where
       front_of : (x : List ℕ) → IsPrefixOf (take MAX_JOURNAL_BYTES x) x
       front_of x = (drop MAX_JOURNAL_BYTES x, sym (take-append-drop MAX_JOURNAL_BYTES x))
@@ -233,11 +233,11 @@ pub comes_back : (root written : List ℕ) (journal : OldJournal) (all : List Re
     → ReadsJournal root journal input input' → RestartsFromJournal root journal all last
 comes_back root written journal all last input input' is begins reads =
     let inside = first_of_first journal.bytes written (journal_text all) begins is.begins in
-    let broken = breaks_off all journal.requests journal.bytes journal.rest is.told inside reads.whole in
+    let broken = breaks_off all journal.requests journal.bytes journal.rest is.recorded inside reads.whole in
     record {
       left = broken.0;
       whole = broken.1;
-      goes_on = from_there root written all last is journal.requests journal.rest journal.bytes journal.state reads.records.told reads.records.redone reads.whole.split begins broken.0 broken.1.requests;
+      goes_on = from_there root written all last is journal.requests journal.rest journal.bytes journal.state reads.records.recorded reads.records.redone reads.whole.split begins broken.0 broken.1.requests;
     }
 
 -- ---- the next run goes on
@@ -274,7 +274,7 @@ module _ {W : Type 0} (Keeps : List Edit → W → W → Type 0) where
       → (run' : ServesAfterJournal Keeps next kept between old' new') → (between.state ≡ run.next) × ReachesByValidSteps next.root run.next run'.next
   goes_on first next served kept before between old new old' new' same run took reads run' =
       let bytes : between.bytes ≡ journal_text run.accepted ++ [] = took_alike old.output.taken new.output.taken between.bytes (journal_text run.accepted ++ []) took run.written in
-      let requests : between.requests ≡ run.accepted = (one_whole between.bytes between.requests run.accepted between.rest [] reads.whole (record { told = run.told; split = bytes; no_more = nothing_in })).0 in
+      let requests : between.requests ≡ run.accepted = (one_whole between.bytes between.requests run.accepted between.rest [] reads.whole (record { recorded = run.recorded; split = bytes; no_more = nothing_in })).0 in
       let redone : AcceptsRequests next.root (first_state 1) between.requests run.next =
       subst (λ (r : List ℕ). AcceptsRequests r (first_state 1) between.requests run.next) (sym same) (subst (λ (rs : List Request). AcceptsRequests first.root (first_state 1) rs run.next) (sym requests) run.redone) in
       let state : between.state ≡ run.next = one_way next.root between.requests (first_state 1) between.state run.next reads.records.redone redone in

@@ -17,7 +17,7 @@ use Rattle.store_core.specs.DocumentChanges.{find_document, document_id, stored_
 use Rattle.store_core.specs.Since.{ReportedChanges, Unknown, notes_from, since}
 use Rattle.store_core.specs.inner.ChangesSince.{stored_changes_since, changes_since_of}
 use Rattle.store_core.specs.State.{Document, State, Version, is_within_retention, notes, retained_notes, longest_retained_end, versions}
-use Rattle.store_core.specs.ValidStates.{AreSuccessiveVersions, IsValidDocument, IsValidState}
+use Rattle.store_core.specs.ValidStates.{AreSuccessiveVersions, IsValidHistory, IsValidState}
 use Rattle.store_core.proofs.Chains.{notes_of}
 use Rattle.xcap_machine.proofs.OneVersion.{found_all, held_there}
 use Rattle.xcap_laws.specs.RetainedVersions.{changes_after_version, is_retainable}
@@ -205,7 +205,7 @@ earlier_below (suc k) v (w ∷ ws) x follows is = earlier_below k w ws x follows
 
 -- ---- the changes since a version
 
-by_number : (next : ℕ) (d : Document) (number : ℕ) (v : Version) → IsValidDocument next d → slice_get (versions d) number ≡ Some v → stored_changes_since v.tag (Some (stored_document d)) ≡ changes_after_version number d
+by_number : (next : ℕ) (d : Document) (number : ℕ) (v : Version) → IsValidHistory next d → slice_get (versions d) number ≡ Some v → stored_changes_since v.tag (Some (stored_document d)) ≡ changes_after_version number d
 by_number next d zero v kept is = let same : d.now ≡ v = cc in ap (λ (b : Bool). cond b (ReportedChanges []) (changes_since_of (notes_from v.tag (retained_notes (notes d))))) (eq-eqb d.now.tag v.tag (ap (λ (x : Version). x.tag) same))
 by_number next d (suc k) v kept is = by (d.now.tag == v.tag) refl
   where
@@ -233,7 +233,7 @@ by_number next d (suc k) v kept is = by (d.now.tag == v.tag) refl
 pub known_exactly : (c : StoreContents) (m : State) (id : DocId) (d : Document) (number : ℕ) (v : Version) → IsValidState m → Represents c m → find_document document_id m.documents id ≡ Some d → slice_get (versions d) number ≡ Some v → since c id v.tag ≡ changes_after_version number d
 known_exactly c m id d number v kept stands there is =
     let held : find_document stored_id c.documents id ≡ Some (stored_document d) = ap (λ (x : StoreContents). find_document stored_id x.documents id) stands ∙ held_there m.documents id ∙ ap (option_map stored_document) there in
-    ap (stored_changes_since v.tag) held ∙ by_number m.next d number v (found_all (IsValidDocument m.next) (λ x. same_id id x.id) m.documents d kept.documents there) is
+    ap (stored_changes_since v.tag) held ∙ by_number m.next d number v (found_all (IsValidHistory m.next) (λ x. same_id id x.id) m.documents d kept.documents there) is
 
 retainable : (w : Note → ℕ) (ns : List Note) → length ns ≤ 64 → sum_by w ns ≤ 65536 → is_retainable w ns ≡ true
 retainable w [] few light = refl
@@ -246,7 +246,7 @@ retainable w (x ∷ y ∷ xs) few light = by (length (x ∷ y ∷ xs)) (sum_by w
 pub near_is_known : (c : StoreContents) (m : State) (id : DocId) (d : Document) (number : ℕ) (v : Version) → IsValidState m → Represents c m → find_document document_id m.documents id ≡ Some d → slice_get (versions d) number ≡ Some v
     → number ≤ 64 → sum_by weight (notes_after number (versions d)) ≤ 65536 → since c id v.tag ≡ ReportedChanges (notes_after number (versions d))
 near_is_known c m id d number v kept stands there is few light =
-    let follows : AreSuccessiveVersions d.now d.earlier = (found_all (IsValidDocument m.next) (λ x. same_id id x.id) m.documents d kept.documents there).follows in
+    let follows : AreSuccessiveVersions d.now d.earlier = (found_all (IsValidHistory m.next) (λ x. same_id id x.id) m.documents d kept.documents there).follows in
     let ns = notes_after number (versions d) in
     let whole : is_retainable weight ns ≡ true = retainable weight ns (omega (arith, few, counted number d.now d.earlier v follows is)) light in
     known_exactly c m id d number v kept stands there is ∙ ap (λ (b : Bool). cond b (ReportedChanges ns) Unknown) whole

@@ -13,8 +13,8 @@ use Rattle.element_watch.specs.SelectionHistory.{notes_after}
 use Rattle.store_core.specs.Contents.{contents_of}
 use Rattle.store_core.specs.DocumentChanges.{ChangeKind, Edits, Makes, Removes, change_kind, state_after_by_kind, find_document, document_id}
 use Rattle.store_core.specs.Since.{ReportedChanges, Unknown, since}
-use Rattle.store_core.specs.State.{Document, State, Version, created, document_after, versions}
-use Rattle.store_core.specs.ValidStates.{IsValidDocument, IsValidState}
+use Rattle.store_core.specs.State.{Document, State, Version, new_document, document_after, versions}
+use Rattle.store_core.specs.ValidStates.{IsValidHistory, IsValidState}
 use Rattle.store_core.proofs.Chains.{notes_of}
 use Rattle.xcap_machine.specs.Answers.{MadeChange}
 use Rattle.xcap_machine.specs.Machine.{state_after_answer, change_from_edit}
@@ -96,7 +96,7 @@ record AreLater (first : ℕ) (id : DocId) (d : Document) (s : State) : Type 0 w
   given : first ≤ s.next
   all : (e : Document) → find_document document_id s.documents id ≡ Some e → IsLater first d e
 
-later_made : (first : ℕ) (d e : Document) (other : DocId) (next : ℕ) (root : _) → first ≤ next → e ≡ created other next root → IsLater first d e
+later_made : (first : ℕ) (d e : Document) (other : DocId) (next : ℕ) (root : _) → first ≤ next → e ≡ new_document other next root → IsLater first d e
 later_made first d e other next root le same = subst (IsLater first d) (sym same) (inr (le, tt))
 
 later_edited : (first : ℕ) (d e : Document) (next : ℕ) (n : Note) → first ≤ next → IsLater first d e → IsLater first d (document_after next e n)
@@ -114,9 +114,9 @@ module _ (first : ℕ) (id : DocId) (d : Document) where
   edited_one s x e n h there (inr same) = subst (IsLater first d) (sym same) (later_edited first d x s.next n h.given (h.all x there))
 
   after_one : (s : State) (other : DocId) (change : Change) (act : ChangeKind) → AreLater first id d s → (e : Document) → find_document document_id (state_after_by_kind s other change act).documents id ≡ Some e → IsLater first d e
-  after_one s other change (Makes root) h e is = by (found_more s.documents (created other s.next root) e id is)
+  after_one s other change (Makes root) h e is = by (found_more s.documents (new_document other s.next root) e id is)
     where
-      by : (find_document document_id s.documents id ≡ Some e) ⊎ (e ≡ created other s.next root) → IsLater first d e
+      by : (find_document document_id s.documents id ≡ Some e) ⊎ (e ≡ new_document other s.next root) → IsLater first d e
       by (inl there) = h.all e there
       by (inr same) = later_made first d e other s.next root h.given same
   after_one s other change Edits h e is =
@@ -161,7 +161,7 @@ still_there root m n id d kept reaches there has = by (later.all has.document ha
         (record { given = omega arith; all = λ e is. inl ([], ap versions (same_document (find_document document_id m.documents id) d e there is)) })
 
     low : d.now.tag < m.next
-    low = (found_all (IsValidDocument m.next) (λ x. same_id id x.id) m.documents d kept.documents there).tags.0.1
+    low = (found_all (IsValidHistory m.next) (λ x. same_id id x.id) m.documents d kept.documents there).tags.0.1
 
     by : IsLater m.next d has.document → (news : List Version) × (versions has.document ≡ news ++ versions d)
     by (inl h) = h

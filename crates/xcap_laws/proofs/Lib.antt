@@ -1,5 +1,7 @@
 pub mod Access
 pub mod Addressed
+pub mod AddressedChanges
+pub mod Ancestors
 pub mod AnswerKinds
 pub mod Beside
 pub mod Conditions

@@ -23,7 +23,7 @@ use Rattle.store_core.specs.Contents.{StoredDocument, StoreContents as Content, 
 use Rattle.store_core.specs.DocumentChanges.{ChangeKind, Makes, Edits, Removes, change_kind, state_after_by_kind, refusal_of, refusal_of_number, refusal_of_tree, refusal_or, change_result, contents_after, find_document, note_for, stored_id}
 use Rattle.store_core.specs.ChangePreconditions.{MayRequest, MayRequestByKind}
 use Rattle.store_core.specs.State.{Document, State, Version, first_state, is_within_retention, notes, longest_retained_end, versions}
-use Rattle.store_core.specs.ValidStates.{IsValidDocument, IsSoundDocumentFor, IsValidState}
+use Rattle.store_core.specs.ValidStates.{IsValidHistory, IsSoundDocumentFor, IsValidState}
 use Rattle.store_core.specs.declared.refusal.StoreRefusal.{StoreRefusal}
 use Rattle.store_core.specs.declared.refusal.StoreRefusal.TheVariants.{NoNumber}
 use Rattle.store_core.proofs.AcceptedChanges.{sum-first}
@@ -73,7 +73,7 @@ module _ (next : ℕ) (low_next : next ≤ 18446744073709551616) where
   all_within usage [] sound dated = tt
   all_within usage (v ∷ vs) sound dated = (within usage v sound.0 dated.0, all_within usage vs sound.1 dated.1)
 
-  documents_within : (ds : List Document) → AllByRecursion (IsValidDocument next) ds → AllByRecursion IsDocumentWithinLimits ds
+  documents_within : (ds : List Document) → AllByRecursion (IsValidHistory next) ds → AllByRecursion IsDocumentWithinLimits ds
   documents_within [] kept = tt
   documents_within (d ∷ ds) kept =
       (record { versions_within = all_within (usage_of d.id.auid) (versions d) kept.0.sound kept.0.tags; records = few_end (notes d) }, documents_within ds kept.1)

@@ -17,7 +17,7 @@ use Rattle.reply_text.specs.declared.media_types.MediaType.TheVariants as medias
 use Rattle.request_checks.specs.Tags.{AllBytesPass, is_tag_byte}
 use Rattle.xcap_client.proofs.QuoteLemmas.{all_pass}
 use Rattle.xcap_client.proofs.Visible.{is_visible, each_true, passes, visible_in_value, visible_trims, visible-append}
-use Rattle.xcap_client.specs.BodyLengths.{body_extent, extent_by_length, exact_body_length}
+use Rattle.xcap_client.specs.BodyLengths.{body_length_of, length_by_field, exact_body_length}
 use Rattle.xcap_client.specs.ResponseTags.{HasTag, IsTagOf}
 use Rattle.xcap_client.specs.declared.body_length.BodyLength.{BodyLength}
 use Rattle.xcap_client.specs.declared.body_length.BodyLength.TheVariants.{Empty}
@@ -223,14 +223,14 @@ a_number n small = and_from _ _ (some (length (decimal n)) (decimal_nonempty n s
     some k less = grind (arith, nat_tests)
 
 -- the length of the body by the head of a reply: none at 304, and else the size
-abbrev pub extent_for : Bool → ℕ → Result BodyLength ResponseFault
-extent_for bodiless size = if bodiless then Ok Empty else exact_body_length size
+abbrev pub body_length_for : Bool → ℕ → Result BodyLength ResponseFault
+body_length_for bodiless size = if bodiless then Ok Empty else exact_body_length size
 
-pub extent_is : (f : HeadFields) → (f.status == 204) ≡ false → f.size < 2 ^ 64 → body_extent f.status (lines_of f) ≡ extent_for (f.status == 304) f.size
-unfolding body_extent extent_by_length
-extent_is f other small = rw (no_coding f, length_values f, other) (at (f.status == 304))
+pub body_length_is : (f : HeadFields) → (f.status == 204) ≡ false → f.size < 2 ^ 64 → body_length_of f.status (lines_of f) ≡ body_length_for (f.status == 304) f.size
+unfolding body_length_of length_by_field
+body_length_is f other small = rw (no_coding f, length_values f, other) (at (f.status == 304))
   where
-    at : (b : Bool) → extent_by_length b (lengths b f.size) ≡ extent_for b f.size
+    at : (b : Bool) → length_by_field b (lengths b f.size) ≡ body_length_for b f.size
     at true = refl
     at false =
         let value = (decimal_is_IsNumeral f.size small).1 in

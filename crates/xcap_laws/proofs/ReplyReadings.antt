@@ -15,17 +15,17 @@ use Rattle.reply_text.specs.Statuses.{is_status, reason}
 use Rattle.reply_text.specs.declared.media_types.MediaType.{MediaType}
 use Rattle.reply_text.specs.declared.media_types.MediaType.TheVariants as medias
 use Rattle.xcap_client.proofs.Visible.{passes}
-use Rattle.xcap_client.specs.BodyLengths.{body_result, body_extent, exact_body_length}
+use Rattle.xcap_client.specs.BodyLengths.{body_result, body_length_of, exact_body_length}
 use Rattle.xcap_client.specs.ResponseHeads.{BeginsWithHead}
 use Rattle.xcap_client.specs.declared.body_length.TheConstants.{MAX_RESPONSE_BODY_BYTES}
-use Rattle.xcap_client.specs.Responses.{IsResponseOf, extent_of, refused, responds, response_of}
+use Rattle.xcap_client.specs.Responses.{IsResponseOf, body_length_of_head, refused, responds, response_of}
 use Rattle.xcap_client.specs.ResponseTags.{IsTagOf}
 use Rattle.xcap_client.specs.declared.body_length.BodyLength.{BodyLength}
 use Rattle.xcap_client.specs.declared.body_length.BodyLength.TheVariants.{Empty, Exactly}
 use Rattle.xcap_client.specs.declared.response_fault.ResponseFault.{ResponseFault}
 use Rattle.xcap_client.specs.declared.response_fault.ResponseFault.TheVariants.{TooLong}
 use Rattle.xcap_laws.proofs.DecimalDigits.{all_digits, few_digits, three_digits}
-use Rattle.xcap_laws.proofs.ReplyFields.{extent_for, extent_is, fields_of, parsed, tag_is}
+use Rattle.xcap_laws.proofs.ReplyFields.{body_length_for, body_length_is, fields_of, parsed, tag_is}
 use Rattle.xcap_laws.proofs.ReplyLines.{IsPhrase, Line, a_phrase, allow_lines, close_lines, framed_status, lines_of, media_lines, printed, size_lines, tag_lines, tree, tree_of}
 use Rattle.xcap_laws.specs.ReadReplies.{IsReadBackReply, response_of_reply}
 
@@ -178,12 +178,12 @@ code_is f lawful =
     let three = digits_of_status f.status lawful in
     (decimal_is_IsNumeral f.status (omega (arith, three.high))).1
 
-pub extent : (f : HeadFields) → is_status f.status ≡ true → f.size < 2 ^ 64 → extent_of (tree_of f) ≡ extent_for (f.status == 304) f.size
-extent f lawful small =
+pub length_is_exact : (f : HeadFields) → is_status f.status ≡ true → f.size < 2 ^ 64 → body_length_of_head (tree_of f) ≡ body_length_for (f.status == 304) f.size
+length_is_exact f lawful small =
     let three = digits_of_status f.status lawful in
-    ap (λ (n : ℕ). body_extent n (map name_and_value (tree_of f).fields)) (code_is f lawful)
-    ∙ ap (body_extent f.status) (parsed f)
-    ∙ extent_is f three.other small
+    ap (λ (n : ℕ). body_length_of n (map name_and_value (tree_of f).fields)) (code_is f lawful)
+    ∙ ap (body_length_of f.status) (parsed f)
+    ∙ body_length_is f three.other small
 
 -- # The body
 
@@ -193,7 +193,7 @@ pub record IsFramedBy (f : HeadFields) (body : List ℕ) : Type 0 where
   pub size : f.size ≡ length body
   pub bodiless : (f.status == 304) ≡ true → body ≡ []
 
-pub body_read : (size : ℕ) (body more : List ℕ) (bodiless : Bool) → size ≡ length body → (bodiless ≡ true → body ≡ []) → length body ≤ MAX_RESPONSE_BODY_BYTES → body_result (extent_for bodiless size) (body ++ more) ≡ Ok body
+pub body_read : (size : ℕ) (body more : List ℕ) (bodiless : Bool) → size ≡ length body → (bodiless ≡ true → body ≡ []) → length body ≤ MAX_RESPONSE_BODY_BYTES → body_result (body_length_for bodiless size) (body ++ more) ≡ Ok body
 body_read size body more true same none short = ap Ok (sym (none refl))
 body_read size body more false same none short =
     rw (le-ltb MAX_RESPONSE_BODY_BYTES size (omega (arith, same, short)), le-ltb (length (body ++ more)) size (omega (arith, same, length-append body more)))
@@ -206,7 +206,7 @@ pub says_back : (f : HeadFields) (body more : List ℕ) → IsFramedBy f body �
 says_back f body more framed short =
     let small : f.size < 2 ^ 64 = omega (arith, framed.size, short) in
     responds (tree_of f) (body ++ more) (option_map decimal f.tag) body (begins_reply f body more framed.lawful) (tag_read f)
-    (ap (λ (e : Result BodyLength ResponseFault). body_result e (body ++ more)) (extent f framed.lawful small) ∙ body_read f.size body more (f.status == 304) framed.size framed.bodiless short)
+    (ap (λ (e : Result BodyLength ResponseFault). body_result e (body ++ more)) (length_is_exact f framed.lawful small) ∙ body_read f.size body more (f.status == 304) framed.size framed.bodiless short)
     (ap (λ (n : ℕ). Ok (record { status = n; tag = option_map decimal f.tag; body = body })) (sym (code_is f framed.lawful)))
 
 pub read_back : (f : HeadFields) (body : List ℕ) → IsFramedBy f body → length body ≤ MAX_RESPONSE_BODY_BYTES → IsReadBackReply (sent_reply f body)
@@ -229,7 +229,7 @@ longer f body more framed long countable = by (f.status == 304) refl
     by true is = absurd (omega (arith, long, ap length (framed.bodiless is)))
     by false is =
         let small : f.size < 2 ^ 64 = omega (arith, framed.size, countable) in
-        let reads : extent_of (tree_of f) ≡ exact_body_length f.size = extent f framed.lawful small ∙ ap (λ (b : Bool). extent_for b f.size) is in
+        let reads : body_length_of_head (tree_of f) ≡ exact_body_length f.size = length_is_exact f framed.lawful small ∙ ap (λ (b : Bool). body_length_for b f.size) is in
         refused (tree_of f) (body ++ more) (TooLong f.size) (begins_reply f body more framed.lawful)
         (ap (λ (e : Result BodyLength ResponseFault). body_result e (body ++ more)) reads ∙ too_long f.size (body ++ more) (omega (arith, framed.size, long)))
         (ap (λ (n : ℕ). Err (TooLong n)) (sym framed.size))

@@ -8,7 +8,7 @@ use Rattle.edit_ops.specs.Notes.{Note, note_of}
 use Rattle.edit_ops.specs.declared.change.Change.{Change}
 use Rattle.edit_ops.specs.declared.edit.Edit.{Edit}
 use Rattle.store_core.specs.DocumentChanges.{ChangeKind, Makes, Edits, Removes, change_kind, state_after, state_after_by_kind, find_document, document_id, with_document, without_document}
-use Rattle.store_core.specs.State.{Document, State, created, document_after, versions}
+use Rattle.store_core.specs.State.{Document, State, new_document, document_after, versions}
 use Rattle.store_core.specs.ValidStates.{AreDistinct, IsValidState}
 use Rattle.xcap_laws.proofs.FreshTags.{low_tag, next_number}
 use Rattle.xcap_machine.proofs.OneVersion.{found_all}
@@ -91,7 +91,7 @@ after_first t m id change Edits less never h = replaced t id m.next (λ d. note_
 after_first t m id change Removes less never h = removed t id m.documents h
 
 after_other : (t : ℕ) (m : State) (id : DocId) (change : Change) (act : ChangeKind) → t < m.next → HaveOthers t m.documents → HaveOthers t (state_after_by_kind m id change act).documents
-after_other t m id change (Makes root) less h = appended t m.documents (created id m.next root) (λ is. let new : m.next ≡ t = is in omega (arith, less, new)) h
+after_other t m id change (Makes root) less h = appended t m.documents (new_document id m.next root) (λ is. let new : m.next ≡ t = is in omega (arith, less, new)) h
 after_other t m id change Edits less h = replaced t id m.next (λ d. note_of d.now.tag m.next d.now.tree change) m.documents less (weaken t id m.documents h)
 after_other t m id change Removes less h = removed t id m.documents (weaken t id m.documents h)
 

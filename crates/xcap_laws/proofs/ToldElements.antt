@@ -24,7 +24,7 @@ use Rattle.store_core.specs.Contents.{StoredDocument, StoreContents, stored_docu
 use Rattle.store_core.specs.DocumentChanges.{find_document, document_id, stored_id}
 use Rattle.store_core.specs.Since.{ChangesSince, Gone, ReportedChanges, Unknown, since}
 use Rattle.store_core.specs.State.{Document, State, Version, versions}
-use Rattle.store_core.specs.ValidStates.{IsValidDocument}
+use Rattle.store_core.specs.ValidStates.{IsValidHistory}
 use Rattle.xcap_uri.specs.declared.fault.UriFault.{UriFault}
 use Rattle.xcap_uri.specs.declared.target.Target.{Target}
 use Rattle.xcap_uri.specs.declared.target.Target.TheVariants.{ElementFeed}
@@ -73,8 +73,8 @@ module _ (root : List ℕ) (c : StoreContents) (m : State) (query : ElementQuery
   known : since c query.watched.doc query.tag ≡ changes_after_version h.number d
   known = ap (since c query.watched.doc) (sym h.same_tag) ∙ known_exactly c m query.watched.doc d h.number from h.kept h.stands h.there h.is_version
 
-  kept_so : IsValidDocument m.next d
-  kept_so = found_all (IsValidDocument m.next) (λ x. same_id query.watched.doc x.id) m.documents d h.kept.documents h.there
+  kept_so : IsValidHistory m.next d
+  kept_so = found_all (IsValidHistory m.next) (λ x. same_id query.watched.doc x.id) m.documents d h.kept.documents h.there
 
   held : find_document stored_id c.documents query.watched.doc ≡ Some (stored_document d)
   held = ap (λ (x : StoreContents). find_document stored_id x.documents query.watched.doc) h.stands ∙ held_there m.documents query.watched.doc ∙ ap (option_map stored_document) h.there

@@ -19,7 +19,7 @@ pub record IsVersionWithinLimits (v : Version) : Type 0 where
   pub bytes : printed_len v.tree ≤ 262144
   pub tag : (1 ≤ v.tag) × (v.tag ≤ 18446744073709551615)
 
--- the retained change records, of all those of a document: the newest ones, and at least the
+-- the retained records, of all change records of a document: the newest records, and at least the
 -- newest; at most 64; and their operations have at most 65,536 bytes together, unless it is one
 pub record AreRetainedRecords (all retained : List Note) : Type 0 where
   pub newest : (dropped : List Note) × (all ≡ dropped ++ retained)

@@ -12,4 +12,5 @@ pub mod ReachedAddresses
 pub mod ReadReplies
 pub mod RetainedVersions
 pub mod ServiceIndexes
+pub mod UnchangedAncestors
 pub mod WrittenJournals

@@ -16,7 +16,7 @@ use Rattle.xcap_server.specs.ReplayedRequests.{AcceptsRequests}
 -- The bytes are first bytes of the records of these requests, at each of which the machine of the
 -- root makes a change, from the state without documents whose next number is 1 to the last state.
 pub record IsWrittenJournal (root bytes : List ℕ) (all : List Request) (last : State) : Type 0 where
-  pub told : All IsRecordedRequest all
+  pub recorded : All IsRecordedRequest all
   pub redone : AcceptsRequests root (first_state 1) all last
   pub begins : IsPrefixOf bytes (journal_text all)
 

@@ -53,7 +53,7 @@ pub fn users_read_their_own_home()
         (target : Target) (a b : Answer) → IsTargetResult root request.target (Ok target)
         → is_reading (method_of request.method) ≡ true → AgreesUnderHome (home_of target) c d
         → IsAnswer root c request a → IsAnswer root d request b → a ≡ b }
-    ensures own_home_and_global { (root : List ℕ) (c d : StoreContents) (request : Request)
+    ensures own_or_global { (root : List ℕ) (c d : StoreContents) (request : Request)
         (xui : List ℕ) (a b : Answer) → IsFromNoOtherUser xui request
         → is_reading (method_of request.method) ≡ true → AgreesUnderHome (User xui) c d
         → AgreesOnGlobal c d → IsAnswer root c request a → IsAnswer root d request b → a ≡ b }

@@ -68,10 +68,10 @@ pub fn what_is_fetched_is_a_version()
         → method_of request.method ≡ Get → a.reply.status ≡ 200 → SendsVersion c m id a.reply }
 {}
 
-/// A law: what is told once at a version is told never again. Where a document was in a version
-/// and still has it after steps of the machine, and the changes since an older version are known
-/// before and after them, then those after are those that were known before, and then those since
-/// the version between, which are known too: none is lost, repeated or merged.
+/// A law: what was reported at a version is never reported again. Where a document was in a
+/// version and still has it after steps of the machine, and the changes since an older version are
+/// known before and after them, then those after are those that were known before, and then those
+/// since the version between, which are known too: none is lost, repeated or merged.
 pub fn changes_are_told_once()
     ensures told_once { (root : List ℕ) (m n : State) (id : DocId) (d : Document) (number : ℕ)
         (u : Version) (earlier all : List Note) → IsValidState m → ReachesByValidSteps root m n
@@ -87,7 +87,7 @@ pub fn changes_are_told_once()
 /// exists where a key address selects it now, and selects no equal element in that version; and
 /// that it doesn't where the selector selects nothing now, and selected something in that version.
 pub fn element_notices_miss_nothing()
-    ensures change_is_told { (root : List ℕ) (c : StoreContents) (m : State)
+    ensures change_reported { (root : List ℕ) (c : StoreContents) (m : State)
         (query : ElementQuery) (a : Answer) (u : Usage) (p : List ℕ)
         → (feed : AnswersElementFeed root c m query a)
         → usage_of query.watched.doc.auid ≡ Some u
@@ -96,7 +96,7 @@ pub fn element_notices_miss_nothing()
         → ((q : List ℕ) → SelectsPath query.watched.selector.steps feed.from.tree q
         → at q feed.from.tree ≡ at p feed.document.now.tree → ⊥)
         → a.reply.body ≡ element_notice_text root query Exists }
-    ensures removal_is_told { (root : List ℕ) (c : StoreContents) (m : State)
+    ensures removal_reported { (root : List ℕ) (c : StoreContents) (m : State)
         (query : ElementQuery) (a : Answer) → (feed : AnswersElementFeed root c m query a)
         → (SelectsSome query.watched.selector feed.document.now.tree → ⊥)
         → SelectsSome query.watched.selector feed.from.tree

@@ -19,7 +19,7 @@ ghost use Rattle.xcap_machine.specs.Requests.{IsAnswer};
 /// A law: by the grammar of responses (RFC 9112) the bytes of a reply are that reply, whatever
 /// follows them on the connection: its status, its tag, and its body to the last byte. So nothing
 /// that is stored or asked makes two responses of one reply. A body beyond the client's limit is
-/// refused by its length. The reply to a HEAD, which tells the length of a body that isn't sent,
+/// refused by its length. The reply to a HEAD, which has the length of a body that isn't sent,
 /// is a head alone.
 pub fn replies_are_read_back()
     ensures read_back { (reply : SentReply) → IsCompleteReply reply

@@ -30,7 +30,7 @@ use Rattle.request_checks.specs.declared.method.Method.{Method}
 use Rattle.request_checks.specs.declared.method.Method.TheVariants.{Get}
 use Rattle.store_core.specs.DocumentChanges.{find_document, document_id, stored_id}
 use Rattle.store_core.specs.Contents.{StoredDocument, Represents, StoreContents, stored_document}
-use Rattle.store_core.specs.ValidStates.{IsValidDocument, IsValidState}
+use Rattle.store_core.specs.ValidStates.{IsValidHistory, IsValidState}
 use Rattle.store_core.specs.Since.{Gone, ChangesSince, ReportedChanges, Unknown, notes_from, since}
 use Rattle.store_core.specs.inner.ChangesSince.{stored_changes_since, changes_since_of}
 use Rattle.store_core.specs.State.{Document, State, Version, versions}
@@ -73,7 +73,7 @@ gone_there c m id tag stands e =
 one_of_tag : (m : State) (id : DocId) (d : Document) (from other : Version) (number k : ℕ) → IsValidState m → find_document document_id m.documents id ≡ Some d
     → slice_get (versions d) number ≡ Some from → slice_get (versions d) k ≡ Some other → other.tag ≡ from.tag → other ≡ from
 one_of_tag m id d from other number k kept there is is_other same =
-    let kept_so : IsValidDocument m.next d = found_all (IsValidDocument m.next) (λ x. same_id id x.id) m.documents d kept.documents there in
+    let kept_so : IsValidHistory m.next d = found_all (IsValidHistory m.next) (λ x. same_id id x.id) m.documents d kept.documents there in
     one_version d.now d.earlier k number other from kept_so.follows is_other is same
 
 -- ---- the text of a diff document

@@ -23,7 +23,7 @@ use Rattle.patch_laws.proofs.LawStatements.{aggregate_read, aggregate_replayed, 
 use Rattle.store_core.specs.DocumentChanges.{find_document, document_id}
 use Rattle.store_core.specs.Contents.{Represents, StoreContents as Content}
 use Rattle.store_core.specs.History.{TreesAreSound, AreRecordsSince, RecordsLeadBetween}
-use Rattle.store_core.specs.ValidStates.{IsValidDocument, IsSoundDocumentFor, IsValidState}
+use Rattle.store_core.specs.ValidStates.{IsValidHistory, IsSoundDocumentFor, IsValidState}
 use Rattle.store_core.specs.Since.{ReportedChanges, since}
 use Rattle.store_core.specs.State.{Document, State, Version, versions}
 use Rattle.store_core.proofs.Bridge.{told_since}
@@ -106,7 +106,7 @@ same_document o d e a b = let both : Some d ≡ Some e = sym a ∙ b in cc
 same_version : (m : State) (id : DocId) (d : Document) (from : Version) (number : ℕ) (ns : List Note) (s : AreRecordsSince m id from.tag ns) → IsValidState m → s.document ≡ d
     → find_document document_id m.documents id ≡ Some d → slice_get (versions d) number ≡ Some from → s.from ≡ from
 same_version m id d from number ns s kept same there held =
-    let k : IsValidDocument m.next d = found_all (IsValidDocument m.next) (λ x. same_id id x.id) m.documents d kept.documents there in
+    let k : IsValidHistory m.next d = found_all (IsValidHistory m.next) (λ x. same_id id x.id) m.documents d kept.documents there in
     one_version d.now d.earlier s.number number s.from from k.follows (ap (λ (x : Document). slice_get (versions x) s.number) (sym same) ∙ s.is_version) held s.same_tag
 
 between : (c : Content) (m : State) (v : VersionNotes) → ReportsSince c m v → AreBetween m.next v.from v.document.now v.notes

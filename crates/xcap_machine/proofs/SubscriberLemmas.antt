@@ -18,8 +18,8 @@ use Rattle.xcap_uri.specs.declared.target.Mode.{Mode}
 use Rattle.xcap_uri.specs.declared.target.Target.TheVariants.{Feed}
 use Rattle.store_core.specs.DocumentChanges.{ChangeKind, Edits, Makes, Removes, change_kind, state_after, state_after_by_kind, find_document, document_id}
 use Rattle.store_core.specs.Contents.{contents_of}
-use Rattle.store_core.specs.ValidStates.{IsValidDocument, IsValidState}
-use Rattle.store_core.specs.State.{Document, State, Version, created, document_after, versions}
+use Rattle.store_core.specs.ValidStates.{IsValidHistory, IsValidState}
+use Rattle.store_core.specs.State.{Document, State, Version, new_document, document_after, versions}
 use Rattle.xcap_machine.proofs.OneVersion.{found_all, one_version}
 use Rattle.xcap_machine.specs.Answers.{MadeChange}
 use Rattle.xcap_machine.specs.Machine.{ValidStep, state_after_answer, answer_with_edit, change_from_edit}
@@ -30,8 +30,8 @@ use Rattle.xcap_machine.proofs.Documents.{found_edited, found_less, found_more}
 
 -- ---- versions in one state
 
-kept_so : (m : State) (id : DocId) (d : Document) → IsValidState m → find_document document_id m.documents id ≡ Some d → IsValidDocument m.next d
-kept_so m id d kept there = found_all (IsValidDocument m.next) (λ x. same_id id x.id) m.documents d kept.documents there
+kept_so : (m : State) (id : DocId) (d : Document) → IsValidState m → find_document document_id m.documents id ≡ Some d → IsValidHistory m.next d
+kept_so m id d kept there = found_all (IsValidHistory m.next) (λ x. same_id id x.id) m.documents d kept.documents there
 
 same_document : (o : Option Document) (d e : Document) → o ≡ Some d → o ≡ Some e → e ≡ d
 same_document o d e a b = let both : Some e ≡ Some d = sym b ∙ a in cc
@@ -54,8 +54,8 @@ low_tag m id v kept h = tag_at m.next (versions h.document) h.number v (kept_so 
 
 -- ---- versions after a change
 
-made_version : (id : DocId) (next : ℕ) (root : Tree) (k : ℕ) (w : Version) → slice_get (versions (created id next root)) k ≡ Some w → w.tag ≡ next
-made_version id next root zero w is = let same : (created id next root).now ≡ w = cc in ap (λ (x : Version). x.tag) (sym same)
+made_version : (id : DocId) (next : ℕ) (root : Tree) (k : ℕ) (w : Version) → slice_get (versions (new_document id next root)) k ≡ Some w → w.tag ≡ next
+made_version id next root zero w is = let same : (new_document id next root).now ≡ w = cc in ap (λ (x : Version). x.tag) (sym same)
 made_version id next root (suc k) w is = absurd cc
 
 -- a version of a document to which a change added one
@@ -68,13 +68,13 @@ module _ (m : State) (id : DocId) (w : Version) where
   from_edited x d n k there is (inl same) = inl (record { document = d; there = there; number = k; is_version = ap (λ (y : Document). slice_get (versions y) k) (sym same) ∙ is })
   from_edited x d n k there is (inr same) = edited_version m id d n k w there (ap (λ (y : Document). slice_get (versions y) k) (sym same) ∙ is)
 
-  from_made : (other : DocId) (root : Tree) (x : Document) (k : ℕ) → slice_get (versions x) k ≡ Some w → (find_document document_id m.documents id ≡ Some x) ⊎ (x ≡ created other m.next root) → HasVersion m id w ⊎ (w.tag ≡ m.next)
+  from_made : (other : DocId) (root : Tree) (x : Document) (k : ℕ) → slice_get (versions x) k ≡ Some w → (find_document document_id m.documents id ≡ Some x) ⊎ (x ≡ new_document other m.next root) → HasVersion m id w ⊎ (w.tag ≡ m.next)
   from_made other root x k is (inl there) = inl (record { document = x; there = there; number = k; is_version = is })
   from_made other root x k is (inr same) = inr (made_version other m.next root k w (ap (λ (y : Document). slice_get (versions y) k) (sym same) ∙ is))
 
   -- each version after a change was there before it, or has the number of the change
   from_before : (other : DocId) (change : Change) (act : ChangeKind) → HasVersion (state_after_by_kind m other change act) id w → HasVersion m id w ⊎ (w.tag ≡ m.next)
-  from_before other change (Makes root) h = from_made other root h.document h.number h.is_version (found_more m.documents (created other m.next root) h.document id h.there)
+  from_before other change (Makes root) h = from_made other root h.document h.number h.is_version (found_more m.documents (new_document other m.next root) h.document id h.there)
   from_before other change Edits h =
       let note : Document → Note = λ d. note_of d.now.tag m.next d.now.tree change in
       let f = found_edited m.next note m.documents other id h.document h.there in

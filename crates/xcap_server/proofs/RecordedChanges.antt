@@ -63,22 +63,22 @@ Comes root is_torn requests bytes =
 
 comes_by : (root : List ℕ) (is_torn : Bool) (requests : List Request) (state : State) (rest : List ℕ) → All IsRecordedRequest requests → AcceptsRequests root (first_state 1) requests state
     → MatchBool is_torn ((request : Request) × IsRecordable request × AcceptsRequest (ValidStep root) state request × IsPrefixOf rest (record_of request)) (rest ≡ []) → Comes root is_torn requests (journal_text requests ++ rest)
-comes_by root true requests state rest told way (request, can, accepted, (more, is)) =
+comes_by root true requests state rest recorded way (request, can, accepted, (more, is)) =
     let step = recorded_step root state accepted.1 request accepted.0 accepted.2 accepted.3 in (
       recorded_request request ∷ [],
       accepted.1,
       omega arith,
       (λ no. cc),
-      All-append IsRecordedRequest requests (recorded_request request ∷ []) told (All-cons IsRecordedRequest (recorded_request request) [] (is_told request can) (All-nil IsRecordedRequest)),
+      All-append IsRecordedRequest requests (recorded_request request ∷ []) recorded (All-cons IsRecordedRequest (recorded_request request) [] (is_told request can) (All-nil IsRecordedRequest)),
       redoing_more root requests (first_state 1) state accepted.1 (recorded_request request) step.0 accepted.2 way step.1,
       (more, text_one_more requests request ∙ ap (λ l. journal_text requests ++ l) is ∙ sym (append_assoc (journal_text requests) rest more)),
     )
-comes_by root false requests state rest told way none = (
+comes_by root false requests state rest recorded way none = (
   [],
   state,
   omega arith,
   (λ _. refl),
-  subst (λ (l : List Request). All IsRecordedRequest l) (sym (append-nil requests)) told,
+  subst (λ (l : List Request). All IsRecordedRequest l) (sym (append-nil requests)) recorded,
   subst (λ (l : List Request). AcceptsRequests root (first_state 1) l state) (sym (append-nil requests)) way,
   ([], journal_text-append requests [] ∙ ap (λ l. journal_text requests ++ l) (sym none) ∙ sym (append-nil (journal_text requests ++ rest))),
 )
@@ -86,7 +86,7 @@ comes_by root false requests state rest told way none = (
 pub comes_to_a_state : (server : ServerState) (log : LogState) (journal : JournalState) (requests : List Request) (bytes : List ℕ) → LogsRequests server log journal requests → IsPrefixOf bytes journal.held
     → Comes server.root log.is_torn requests bytes
 comes_to_a_state server log journal requests bytes logs begins =
-    let all = comes_by server.root log.is_torn requests logs.stands.state logs.holds.rest logs.holds.told logs.stands.redone logs.holds.behind in (
+    let all = comes_by server.root log.is_torn requests logs.stands.state logs.holds.rest logs.holds.recorded logs.stands.redone logs.holds.behind in (
       all.0,
       all.1,
       all.2,

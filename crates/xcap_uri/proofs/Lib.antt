@@ -7,6 +7,7 @@ mod FaultOrder
 mod HomeIds
 mod Lasts
 mod Letters
+pub mod MeaningLemmas
 pub mod NamePrints
 pub mod Nameable
 pub mod Octets

@@ -2,6 +2,7 @@ pub mod Ancestors
 pub mod Delimiters
 pub mod Escapes
 pub mod FaultOrder
+pub mod Meanings
 pub mod Numerals
 pub mod PrintedNames
 pub mod Queries

@@ -1,8 +1,11 @@
 //! Laws of targets; nothing here runs.
-ghost use Rattle.std.specs.Prelude.{◌≡◌, ◌↔◌, ◌++◌, ◌∷◌, ℕ, true, List, Option, Result, All, Ok};
+ghost use Rattle.std.specs.Prelude.{◌≡◌, ◌↔◌, ◌⊎◌, ◌++◌, ◌∷◌, ℕ, true, List, Option, Result, All};
+ghost use Rattle.std.specs.Prelude.{Ok, Err};
 ghost use Rattle.xml_names.specs.declared.names.Decl.{Decl};
 ghost use Rattle.xml_names.specs.ReadErrors.{ResultSatisfies};
 ghost use Rattle.doc_names.specs.DocIds.{IsAddressable, id_text};
+ghost use Rattle.xcap_uri.specs.Meanings.{IsNowhereFault, IsOwnAddress, IsOwnTarget};
+ghost use Rattle.xcap_uri.specs.Meanings.{IsTarget, LeadsNowhere};
 ghost use Rattle.xcap_uri.specs.Queries.{IsQuery};
 ghost use Rattle.xcap_uri.specs.Roots.{IsRoot, authority_of, path_of, slash, is_root_text};
 ghost use Rattle.xcap_uri.specs.inner.OctetTexts.{IsOctet, IsDecodedText, IsDecodedHome};
@@ -67,6 +70,20 @@ pub fn targets_have_one_answer()
     ensures ids_are_readable { (root target : List ℕ) (t : Target)
         → IsTargetResult root target (Ok t)
         → IsReadableTarget t }
+{}
+
+/// A law: what an address means by itself is what reading it gives (RFC 4825, section 6): a target
+/// that the address means is read; one that is read is what the address means, except for this
+/// server's own addresses; and the first fault says whether the address leads nowhere.
+pub fn addresses_are_read_as_they_mean()
+    ensures meaning_is_read { (root target : List ℕ) (t : Target) → IsTarget root target t
+        → IsTargetResult root target (Ok t) }
+    ensures reading_is_meant { (root target : List ℕ) (t : Target)
+        → IsTargetResult root target (Ok t)
+        → IsTarget root target t ⊎ (IsOwnAddress root target × IsOwnTarget t) }
+    ensures fault_says_nowhere { (root target : List ℕ) (fault : UriFault)
+        → IsTargetResult root target (Err fault)
+        → LeadsNowhere root target ↔ IsNowhereFault fault }
 {}
 
 /// A law: by the rules a query has at most one list of bindings, and it is what reading from left

@@ -25,7 +25,7 @@ pub record ReplayProgress (S : Type 0) : Type 0 where
 module _ {S : Type 0} (stands : S → List Request → Type 0) (refuses : S → Request → Type 0) where
   -- the requests were replayed in order, their records added, and they were counted
   pub record AdvancesReplay (old new : ReplayProgress S) (requests : List Request) : Type 0 where
-    pub told : All IsRecordedRequest requests
+    pub recorded : All IsRecordedRequest requests
     pub redone : ReplaysRequests stands refuses old.replayer requests new.replayer
     pub held : new.journal.held ≡ old.journal.held ++ journal_text requests
     pub added : new.log ≡ log_with_record old.log (journal_text requests)
@@ -61,7 +61,7 @@ module _ {S : Type 0} (stands : S → List Request → Type 0) (refuses : S → 
       : Type 0 where
     pub requests : List Request
     pub rest : List ℕ
-    pub told : All IsRecordedRequest requests
+    pub recorded : All IsRecordedRequest requests
     pub split : bytes ≡ journal_text requests ++ rest
     pub redone : ReplaysRequests stands refuses old.replayer requests new.replayer
     pub ending : ReplayStopsAs old new requests rest fault

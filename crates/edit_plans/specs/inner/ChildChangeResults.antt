@@ -31,6 +31,7 @@ use Rattle.edit_plans.specs.declared.child_changes.ChildChange.TheVariants.{Put,
 use Rattle.edit_plans.specs.declared.child_changes.ChildChange.TheVariants.{RemoveChild}
 use Rattle.edit_plans.specs.declared.child_changes.ChildChange.TheVariants.{SetAttributes}
 use Rattle.edit_plans.specs.declared.child_attributes.AttributeEdit.{AttributeEdit}
+use Rattle.edit_plans.specs.declared.parent.Parent.{Parent}
 use Rattle.edit_plans.specs.inner.Neighbours.{FitsInsertionPoint, FitsReplacement}
 
 -- the siblings of a new element: all children, or those without the one that it replaces
@@ -51,6 +52,16 @@ pub record ParentContext : Type 0 where
   pub step : Step
   pub element : Tree
 
+-- a parent, and the step that is to select one of its children
+abbrev pub parent_context : Parent → Step → ParentContext
+parent_context parent step =
+    record {
+      kind = parent.kind;
+      scope = parent.scope.now;
+      step = step;
+      element = parent.element.now;
+    }
+
 -- the siblings of a new element, with the element kind of their parent, if it has one, the scope
 -- inside it and its path
 pub record SiblingPlace : Type 0 where
@@ -62,6 +73,20 @@ pub record SiblingPlace : Type 0 where
 -- the siblings under a parent of this kind
 abbrev pub siblings_in : SiblingPlace → ElementKind → Siblings
 siblings_in place kind = record { kind = kind; scope = place.scope; elements = place.elements }
+
+-- the siblings of a new element under a parent, without the child that it replaces, if it does
+abbrev pub sibling_place : Parent → Option ℕ → SiblingPlace
+sibling_place parent left_out =
+    record {
+      kind = parent.kind;
+      scope = parent.scope.now;
+      elements = siblings_without left_out (child_elements_of parent.element.now);
+      path = parent.path.now;
+    }
+
+-- the same under a parent of this kind
+abbrev pub siblings_under : ElementKind → Parent → Option ℕ → Siblings
+siblings_under kind parent left_out = siblings_in (sibling_place parent left_out) kind
 
 -- the result for a new element at an insertion point among others, by the element kind of the
 -- parent: its references don't have their form, else it makes a clash, else the insertion point;

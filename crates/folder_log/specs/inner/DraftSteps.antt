@@ -5,7 +5,7 @@ use Rattle.log_entries.specs.Entries.{Entry, FitsEntryForm, entries_bytes}
 use Rattle.folder_log.specs.FileFormat.{part_entry}
 use Rattle.folder_log.specs.FolderLogs.{LogParts}
 
--- the end of the snapshot: the kind 2; its number is that of the first change
+-- the end of the snapshot: the kind 2; its number is the number of the first change
 abbrev pub snapshot_end_entry : ℕ → Entry
 snapshot_end_entry number = record { number = number; content = 2 ∷ [] }
 

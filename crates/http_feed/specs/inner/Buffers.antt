@@ -5,13 +5,13 @@ use Rattle.http_feed.specs.Feeds.{FeedState}
 
 -- The bytes given and not used yet, how many more may be added without allocation, and how many
 -- bytes are allocated.
-pub record HeldState : Type 0 where
+pub record ReadBufferState : Type 0 where
   pub bytes : List ℕ
   pub room : ℕ
   pub capacity : ℕ
 
 -- a buffer for which nothing is allocated
-abbrev pub no_bytes : HeldState
+abbrev pub no_bytes : ReadBufferState
 no_bytes = record { bytes = []; room = 0; capacity = 0 }
 
 -- a decoder of chunks and how many bytes are allocated for their data

@@ -1,4 +1,4 @@
--- Where the reading of the next item stands, and what is held then.
+-- How far the next item was read, and what is held then.
 use Rattle.std.specs.Prelude.{◌≡◌, ℕ, ◌+◌, ◌<◌, ◌≤◌, Bool, true, false, List, [], ◌++◌, length}
 use Rattle.std.specs.Prelude.{take, drop, Result, Ok, Err, if◌then◌else◌}
 use Rattle.httparse.specs.declared.spans.HeaderSpan.{HeaderSpan}
@@ -12,12 +12,12 @@ use Rattle.http_wire.specs.NextRequests.{RequestReaderState, IsReaderStateAfter}
 use Rattle.http_wire.specs.Heads.{HasNoHead}
 use Rattle.http_wire.specs.inner.ChunkDecoder.{Decoding, initial_decoding, is_settled, DecodesBytes}
 use Rattle.http_wire.specs.inner.ReadBuffer.{BeginsWithBody, IsFramedHeadAt}
-use Rattle.http_feed.specs.declared.item_reader.Place.{Place}
-use Rattle.http_feed.specs.declared.item_reader.Place.TheVariants.{Head, Body, Chunks}
-use Rattle.http_feed.specs.declared.item_reader.Step.{Step}
-use Rattle.http_feed.specs.declared.item_reader.Step.TheVariants.{Item, Open}
+use Rattle.http_feed.specs.declared.item_reader.ReadPlace.{ReadPlace}
+use Rattle.http_feed.specs.declared.item_reader.ReadPlace.TheVariants.{Head, Body, Chunks}
+use Rattle.http_feed.specs.declared.item_reader.ReadStep.{ReadStep}
+use Rattle.http_feed.specs.declared.item_reader.ReadStep.TheVariants.{Item, Open}
 use Rattle.http_feed.specs.Feeds.{IsDecided, IsWaiting}
-use Rattle.http_feed.specs.inner.Buffers.{HeldState, ChunkDataState, no_bytes}
+use Rattle.http_feed.specs.inner.Buffers.{ReadBufferState, ChunkDataState, no_bytes}
 
 -- a head is at the front whose fields say that the body has this length
 pub record IsInBody (head len : ℕ) (bytes given : List ℕ) : Type 0 where
@@ -29,7 +29,7 @@ pub record IsInBody (head len : ℕ) (bytes given : List ℕ) : Type 0 where
   pub same : given ≡ bytes
 
 -- A head is at the front whose fields say that the body is chunked; these bytes after it were
--- decoded and let go, and the others are still there.
+-- decoded and freed, and the others are still there.
 pub record IsInChunks (head : ℕ) (bytes : List ℕ) (decoding : Decoding) (given : List ℕ)
     : Type 0 where
   pub raw : List ℕ
@@ -42,7 +42,7 @@ pub record IsInChunks (head : ℕ) (bytes : List ℕ) (decoding : Decoding) (giv
   pub reads : DecodesBytes initial_decoding raw decoding
 
 -- At this place, with these bytes in the buffer, those given and not used yet are these.
-abbrev pub HoldsBytes : Place → List ℕ → Decoding → List ℕ → Type 0
+abbrev pub HoldsBytes : ReadPlace → List ℕ → Decoding → List ℕ → Type 0
 HoldsBytes (Head seen) bytes decoding given =
     (seen ≤ length bytes) × HasNoHead (take seen bytes) × (given ≡ bytes)
 HoldsBytes (Body head len) bytes decoding given = IsInBody head len bytes given
@@ -50,7 +50,7 @@ HoldsBytes (Chunks head) bytes decoding given =
     IsInChunks head bytes decoding given × (is_settled decoding.stage ≡ false)
 
 -- what the reading rests on, where it goes on from this place
-abbrev pub IsReachablePlace : Place → List ℕ → Type 0
+abbrev pub IsReachablePlace : ReadPlace → List ℕ → Type 0
 IsReachablePlace (Head seen) bytes = (seen ≤ length bytes) × HasNoHead (take seen bytes)
 IsReachablePlace (Body head len) bytes = len ≤ MAX_BODY_BYTES
 IsReachablePlace (Chunks head) bytes = head ≤ length bytes
@@ -69,21 +69,21 @@ pub record HasWholeChunks (head used : ℕ) (bytes body given : List ℕ) : Type
 
 -- An item is decided by the bytes given; or none is complete, and they are held on, in less than a
 -- full buffer.
-abbrev pub AnswersStep : ℕ → List ℕ → Step → List ℕ → Decoding → Type 0
+abbrev pub AnswersStep : ℕ → List ℕ → ReadStep → List ℕ → Decoding → Type 0
 AnswersStep before given (Item asked) bytes decoding = IsDecided before given false asked bytes
 AnswersStep before given (Open place) bytes decoding =
     IsWaiting given × HoldsBytes place bytes decoding given × (length bytes < MAX_HELD_BYTES)
 
--- for want of memory nothing was decided, and the reading stands where it stood
-abbrev pub MayAnswerStep : {E : Type 0} → ℕ → List ℕ → Place → Result Step E → List ℕ → Decoding
-    → Type 0
+-- when out of memory nothing was decided, and the place is the same
+abbrev pub MayAnswerStep : {E : Type 0} → ℕ → List ℕ → ReadPlace → Result ReadStep E → List ℕ
+    → Decoding → Type 0
 MayAnswerStep before given place (Ok step) bytes decoding =
     AnswersStep before given step bytes decoding
 MayAnswerStep before given place (Err _) bytes decoding = HoldsBytes place bytes decoding given
 
 -- The parts of a feed agree: the buffers hold what was given and not used yet; the last request of
 -- a connection spends it, and a spent one holds nothing.
-pub record ArePartsOfFeed (place : Place) (held : HeldState) (chunks : ChunkDataState)
+pub record ArePartsOfFeed (place : ReadPlace) (held : ReadBufferState) (chunks : ChunkDataState)
     (given : List ℕ)
     (requests : ℕ) (spent : Bool) : Type 0 where
   pub holds : HoldsBytes place held.bytes chunks.decoding given

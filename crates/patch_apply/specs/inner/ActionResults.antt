@@ -8,7 +8,7 @@ use Rattle.xml_tree.specs.TreeScopes.{scope_at}
 use Rattle.xml_tree.specs.Tree.{Content, Tree}
 use Rattle.xml_names.specs.declared.names.Decl.{Decl}
 use Rattle.patch_rules.specs.PatchOperations.{OperationError}
-use Rattle.patch_rules.specs.PatchOperations.{WrongNodes, Position, Behind, Prepend}
+use Rattle.patch_rules.specs.PatchOperations.{WrongNodes, Position, Append, Prepend}
 use Rattle.patch_rules.specs.PatchOperations.{Before, After, require_some, has_only_comments}
 use Rattle.patch_rules.specs.PatchOperations.{is_space_at, check_tree, names_agree, nodes_at}
 use Rattle.patch_rules.specs.PatchOperations.{index_in_parent, has_space_before, require}
@@ -17,13 +17,13 @@ use Rattle.patch_rules.specs.PatchOperations.{with_attrs}
 
 -- where content goes: the element among whose nodes it comes, and the number of the node after it
 abbrev pub insertion_path : Position → List ℕ → List ℕ
-insertion_path Behind p = p
+insertion_path Append p = p
 insertion_path Prepend p = p
 insertion_path Before p = parent_path p
 insertion_path After p = parent_path p
 
 abbrev pub insertion_place : Position → List ℕ → Tree → ℕ
-insertion_place Behind p t = length (nodes_at p t)
+insertion_place Append p t = length (nodes_at p t)
 insertion_place Prepend p t = 0
 insertion_place Before p t = index_in_parent p t
 insertion_place After p t = suc (index_in_parent p t)

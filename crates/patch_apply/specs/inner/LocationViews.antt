@@ -19,20 +19,20 @@ LocationExists t (AtAttr p i) = IsSomeAnd (at p t) (λ e. i < length e.attrs)
 LocationExists t (AtText p i) = IsSomeAnd (at p t) (λ e. i < length (nodes_of e.content))
 
 -- the same location: the attribute of the number is the first that passes the test
-abbrev pub IsSpot : Tree → Location → words.Location → Type 0
-IsSpot t (AtElement p) (words.AtElement q) = p ≡ q
-IsSpot t (AtElement p) (words.AtAttr q f) = ⊥
-IsSpot t (AtElement p) (words.AtText q j) = ⊥
-IsSpot t (AtAttr p i) (words.AtElement q) = ⊥
-IsSpot t (AtAttr p i) (words.AtAttr q f) =
+abbrev pub IsSameLocation : Tree → Location → words.Location → Type 0
+IsSameLocation t (AtElement p) (words.AtElement q) = p ≡ q
+IsSameLocation t (AtElement p) (words.AtAttr q f) = ⊥
+IsSameLocation t (AtElement p) (words.AtText q j) = ⊥
+IsSameLocation t (AtAttr p i) (words.AtElement q) = ⊥
+IsSameLocation t (AtAttr p i) (words.AtAttr q f) =
     (p ≡ q) × IsSomeAnd (at p t) (λ e. position f e.attrs ≡ Some i)
-IsSpot t (AtAttr p i) (words.AtText q j) = ⊥
-IsSpot t (AtText p i) (words.AtElement q) = ⊥
-IsSpot t (AtText p i) (words.AtAttr q f) = ⊥
-IsSpot t (AtText p i) (words.AtText q j) = (p ≡ q) × (i ≡ j)
+IsSameLocation t (AtAttr p i) (words.AtText q j) = ⊥
+IsSameLocation t (AtText p i) (words.AtElement q) = ⊥
+IsSameLocation t (AtText p i) (words.AtAttr q f) = ⊥
+IsSameLocation t (AtText p i) (words.AtText q j) = (p ≡ q) × (i ≡ j)
 
 -- the stated location, or none
 abbrev pub LocatesAs : Tree → Option words.Location → Option Location → Type 0
 LocatesAs t stated None = stated ≡ None
 LocatesAs t stated (Some s) =
-    LocationExists t s × ((w : words.Location) × (stated ≡ Some w) × IsSpot t s w)
+    LocationExists t s × ((w : words.Location) × (stated ≡ Some w) × IsSameLocation t s w)

@@ -65,7 +65,7 @@ pub data ListState : Type 0 where
   Letter : ListState
   Slash : ListState
   Inside : ListState
-  Behind : ListState
+  AfterTag : ListState
 
 -- these tags and the tags of the rest, if the rest can be read
 abbrev pub with_tags : List EntityTag → Option (List EntityTag) → Option (List EntityTag)
@@ -89,10 +89,10 @@ tags_from Slash (c ∷ cs) =
     else None
 tags_from Inside [] = None
 tags_from Inside (c ∷ cs) =
-    if c == 34 then tags_from Behind cs else if is_tag_byte c then tags_from Inside cs else None
-tags_from Behind [] = Some []
-tags_from Behind (c ∷ cs) =
-    if is_ows_byte c then tags_from Behind cs else if c == 44 then tags_from Before cs else None
+    if c == 34 then tags_from AfterTag cs else if is_tag_byte c then tags_from Inside cs else None
+tags_from AfterTag [] = Some []
+tags_from AfterTag (c ∷ cs) =
+    if is_ows_byte c then tags_from AfterTag cs else if c == 44 then tags_from Before cs else None
 
 -- ---- a field
 

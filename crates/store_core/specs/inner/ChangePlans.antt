@@ -19,8 +19,8 @@ use Rattle.edit_ops.specs.Notes.{Note, note_of}
 use Rattle.store_core.specs.declared.limits.TheConstants.{MAX_DOCUMENT_BYTES, MAX_BYTES_TOGETHER}
 use Rattle.store_core.specs.declared.entry.Entry.{Entry}
 use Rattle.store_core.specs.declared.staged_tree.StagedTree.{StagedTree}
-use Rattle.store_core.specs.declared.step.Step.{Step}
-use Rattle.store_core.specs.declared.step.Step.TheVariants.{Make, Edit, End}
+use Rattle.store_core.specs.declared.step.EntryStep.{EntryStep}
+use Rattle.store_core.specs.declared.step.EntryStep.TheVariants.{Make, Edit, End}
 use Rattle.store_core.specs.declared.refusal.StoreRefusal.{StoreRefusal}
 use Rattle.store_core.specs.declared.refusal.StoreRefusal.TheVariants.{ServiceTaken, TooLarge}
 use Rattle.store_core.specs.declared.refusal.StoreRefusal.TheVariants.{TooMany, StoreFull}
@@ -78,7 +78,7 @@ pub record IsEditOutline (c : StoreContents) (doc : DocId) (t : Tree) (change : 
       (document_addresses doc.auid (edited t change))
 
 -- the edit of a change record in the tree t, after which the document has this length
-abbrev pub IsEditStep : Tree → Note → ℕ → Step → Type 0
+abbrev pub IsEditStep : Tree → Note → ℕ → EntryStep → Type 0
 IsEditStep t note len step =
     (staged : StagedTree) × IsStagedTreeFor t note.change staged × (step ≡ Edit staged note len)
 
@@ -86,7 +86,7 @@ IsEditStep t note len step =
 -- the store has reserved its own
 abbrev pub IsPreparedEdit : DocId → Entry → Change → Outline → PreparedChange → Type 0
 IsPreparedEdit doc v change o p =
-    (note : Note) × (step : Step)
+    (note : Note) × (step : EntryStep)
     × (note ≡ note_of v.tag o.number v.tree.root change) × IsEditStep v.tree.root note o.len step
     × (p ≡ record {
       doc = doc;
@@ -111,7 +111,7 @@ pub record StepContext : Type 0 where
   pub number : ℕ
 
 -- the entries after a step, and the number under which the document's addresses are registered
-abbrev pub TakesStep : StepContext → Step → ℕ → List (DocId × Entry) → Type 0
+abbrev pub TakesStep : StepContext → EntryStep → ℕ → List (DocId × Entry) → Type 0
 TakesStep at (Make key entry) created new =
     (new ≡ at.entries ++ (key, entry) ∷ []) × (created ≡ entry.created)
 TakesStep at (Edit staged kept len) created new =
@@ -122,7 +122,7 @@ TakesStep at (Edit staged kept len) created new =
 TakesStep at End created new = new ≡ filter (λ e. not (same_id at.doc e.0)) at.entries
 
 -- what a step requires of the entries
-abbrev pub CanTakeStep : List (DocId × Entry) → DocId → Step → Type 0
+abbrev pub CanTakeStep : List (DocId × Entry) → DocId → EntryStep → Type 0
 CanTakeStep old doc (Make key entry) = lookup (same_id key) old ≡ None
 CanTakeStep old doc (Edit staged kept len) =
     (v : Entry) × (lookup (same_id doc) old ≡ Some v) × FitsTree v.tree.root kept.change

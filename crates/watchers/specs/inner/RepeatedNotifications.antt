@@ -5,6 +5,7 @@ use Rattle.std.proofs.lemmas.Grind.{flat_map-append}
 use Rattle.std.specs.Prelude.{flat_map}
 use Rattle.edit_ops.specs.declared.edit.Edit.{Edit}
 use Rattle.watchers.specs.AuditLines.{audit_line_bytes}
+use Rattle.watchers.specs.WatcherStates.{WatcherState}
 use Rattle.watchers.specs.WrittenLines.{WroteLineIfSeen, with_lines}
 use Rattle.watchers.specs.declared.watcher.Told.{Told}
 use Rattle.watchers.specs.declared.watcher.Told.TheVariants.{Kept}
@@ -12,12 +13,12 @@ use Rattle.watchers.specs.Notifications.{RemainOrLeave, AreNotified, HasKeptChan
 use Rattle.watchers.specs.Notifications.{HasKeptAllChanges}
 use Rattle.watchers.specs.Notifications.{HasLeftAt, HasLeftDuring, with_edits}
 
-no_more : (told : Option (List Edit)) → told ≡ with_edits told []
+no_more : (es : Option (List Edit)) → es ≡ with_edits es []
 no_more None = refl
 no_more (Some es) = ap Some (sym (append-nil es))
 
-then_more : (told : Option (List Edit)) (xs ys : List Edit)
-    → with_edits (with_edits told xs) ys ≡ with_edits told (xs ++ ys)
+then_more : (es : Option (List Edit)) (xs ys : List Edit)
+    → with_edits (with_edits es xs) ys ≡ with_edits es (xs ++ ys)
 then_more None xs ys = refl
 then_more (Some es) xs ys = ap Some (append_assoc es xs ys)
 
@@ -40,29 +41,27 @@ more_lines (Some bytes) xs ys =
     (append_assoc bytes (flat_map audit_line_bytes xs) (flat_map audit_line_bytes ys)
     ∙ ap (λ (l : List ℕ). bytes ++ l) (sym (flat_map-append audit_line_bytes xs ys)))
 
-module _ {B : Type 0} (told_list : B → Option (List Edit)) (faults : B → ℕ)
-    (never_refuses : B → Type 0) (answers : B → Edit → Told → Type 0)
-    (written : B → Option (List ℕ)) where
+module _ {B : Type 0} (state : B → WatcherState) where
   abbrev WatchersRemain : List Edit → List B → List B → Type 0
-  WatchersRemain = RemainOrLeave told_list faults never_refuses answers written
+  WatchersRemain = RemainOrLeave state
 
   abbrev KeepsAll : List Edit → B → B → Type 0
-  KeepsAll = HasKeptAllChanges told_list faults never_refuses answers written
+  KeepsAll = HasKeptAllChanges state
 
   abbrev LeavesDuring : List Edit → B → Type 0
-  LeavesDuring = HasLeftDuring told_list faults never_refuses answers written
+  LeavesDuring = HasLeftDuring state
 
   abbrev KeepsOne : Edit → B → B → Type 0
-  KeepsOne = HasKeptChange told_list faults never_refuses answers written
+  KeepsOne = HasKeptChange state
 
   abbrev LeavesAt : Edit → B → B → Type 0
-  LeavesAt = HasLeftAt told_list faults never_refuses answers written
+  LeavesAt = HasLeftAt state
 
   kept_none : (b : B) → KeepsAll [] b b
   kept_none b =
       record {
-        told = no_more (told_list b);
-        wrote = no_line (written b);
+        notified = no_more (state b).notified_changes;
+        wrote = no_line (state b).written;
         counts = omega arith;
         never = λ n. n;
       }
@@ -70,16 +69,20 @@ module _ {B : Type 0} (told_list : B → Option (List Edit)) (faults : B → ℕ
   kept_more : (xs ys : List Edit) (a b c : B) → KeepsAll xs a b → KeepsAll ys b c
       → KeepsAll (xs ++ ys) a c
   kept_more xs ys a b c f s = record {
-    told = s.told ∙ ap (λ told. with_edits told ys) f.told ∙ then_more (told_list a) xs ys;
-    wrote = s.wrote ∙ ap (λ bytes. with_lines bytes ys) f.wrote ∙ more_lines (written a) xs ys;
+    notified =
+        s.notified ∙ ap (λ es. with_edits es ys) f.notified
+        ∙ then_more (state a).notified_changes xs ys;
+    wrote =
+        s.wrote ∙ ap (λ bytes. with_lines bytes ys) f.wrote
+        ∙ more_lines (state a).written xs ys;
     counts = let p = f.counts in let q = s.counts in omega (arith, p, q);
     never = λ n. s.never (f.never n);
   }
 
   kept_one : (edit : Edit) (b c : B) → KeepsOne edit b c → KeepsAll (edit ∷ []) b c
   kept_one edit b c h = record {
-    told = h.told;
-    wrote = one_line (written b) edit (written c) h.wrote;
+    notified = h.notified;
+    wrote = one_line (state b).written edit (state c).written h.wrote;
     counts = h.counts;
     never = h.never;
   }
@@ -131,7 +134,7 @@ module _ {B : Type 0} (told_list : B → Option (List Edit)) (faults : B → ℕ
 
   -- one change
   pub one_round : (edit : Edit) (old new : List B) (left : ℕ)
-      → AreNotified told_list faults never_refuses answers written edit old new left
+      → AreNotified state edit old new left
       → WatchersRemain (edit ∷ []) old new
   one_round edit [] new left h = h.0
   one_round edit (b ∷ bs) new left h =

@@ -10,18 +10,18 @@ use Rattle.edit_plans.proofs.insertion_points.any_passes.Goals.{in-Elem+else-pas
 pub returns-then-passes_step : goal.returns-then-passes_step
 returns-then-passes_step c = record {
   exact =
-      let xs = child_elements_of c.args.parent.now in
+      let xs = child_elements_of c.args.parent.now.element.now in
       let at = at_elem c.nodes-node-items.result.now c.loop-node.node-index c.loop-node.i xs c.in-Elem.child_element c.node-item.result c.loop-node.invariant.left c.loop-node-test.true c.node-item.is c.in-Elem.is in
       let both = c.passes_step.ensures.exact.0 c.if-passes_step.true in
-      (λ h. (c.loop-node.i, match_of (is_named c.args.scope.now c.args.step.now) (is_tested c.args.scope.now c.args.step.now) xs c.loop-node.i c.in-Elem.child_element at.0 both.0 both.1), λ h. refl);
+      (λ h. (c.loop-node.i, match_of (is_named c.args.parent.now.scope.now c.args.step.now) (is_tested c.args.parent.now.scope.now c.args.step.now) xs c.loop-node.i c.in-Elem.child_element at.0 both.0 both.1), λ h. refl);
 }
 
 pub loop-node-preserved : goal.loop-node-preserved
 loop-node-preserved c =
-    let xs = child_elements_of c.args.parent.now in
+    let xs = child_elements_of c.args.parent.now.element.now in
     let ns = c.nodes-node-items.result.now in
-    let named = is_named c.args.scope.now c.args.step.now in
-    let tested = is_tested c.args.scope.now c.args.step.now in
+    let named = is_named c.args.parent.now.scope.now c.args.step.now in
+    let tested = is_tested c.args.parent.now.scope.now c.args.step.now in
     let inv = c.loop-node.invariant in
     elim c.match-node.branch [
       | in-Elem+else-passes_step w ↦
@@ -45,8 +45,8 @@ loop-node-preserved c =
 pub returns : goal.returns
 returns c = record {
   exact =
-      let xs = child_elements_of c.args.parent.now in
+      let xs = child_elements_of c.args.parent.now.element.now in
       let inv = c.loop-node.invariant in
       let last = at_end c.nodes-node-items.result.now c.loop-node.node-index c.loop-node.i xs inv.left c.loop-node-test.false inv.within in
-      (λ h. absurd (true_false false h refl), λ m. absurd (none_at_all (is_named c.args.scope.now c.args.step.now) (is_tested c.args.scope.now c.args.step.now) xs c.loop-node.i last inv.none m));
+      (λ h. absurd (true_false false h refl), λ m. absurd (none_at_all (is_named c.args.parent.now.scope.now c.args.step.now) (is_tested c.args.parent.now.scope.now c.args.step.now) xs c.loop-node.i last inv.none m));
 }

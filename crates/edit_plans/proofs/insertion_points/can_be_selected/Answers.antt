@@ -7,5 +7,5 @@ use Rattle.edit_plans.proofs.insertion_points.can_be_selected.Goals as goal
 pub returns-in-None : goal.returns-in-None
 returns-in-None c = record {
   exact =
-      free_none (is_named c.args.scope.now c.args.step.now) (is_tested c.args.scope.now c.args.step.now) c.args.step.now.position (child_elements_of c.args.parent.now) c.any_passes.result _ c.in-None.is refl c.any_passes.ensures.exact;
+      free_none (is_named c.args.parent.now.scope.now c.args.step.now) (is_tested c.args.parent.now.scope.now c.args.step.now) c.args.step.now.position (child_elements_of c.args.parent.now.element.now) c.any_passes.result _ c.in-None.is refl c.any_passes.ensures.exact;
 }

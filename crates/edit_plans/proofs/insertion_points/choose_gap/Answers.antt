@@ -9,6 +9,6 @@ use Rattle.edit_plans.proofs.insertion_points.choose_gap.Goals as goal
 pub returns-then-not-can_be_selected : goal.returns-then-not-can_be_selected
 returns-then-not-can_be_selected c = record {
   lawful_plan =
-      not_free Unlawful Invalid (is_named c.args.scope.now c.args.step.now) (is_tested c.args.scope.now c.args.step.now) c.args.step.now.position (child_elements_of c.args.parent.now) c.args.new.now (FitsInsertionPoint c.args.row c.args.scope.now c.args.parent.now.content c.args.new.now)
+      not_free Unlawful Invalid (is_named c.args.parent.now.scope.now c.args.step.now) (is_tested c.args.parent.now.scope.now c.args.step.now) c.args.step.now.position (child_elements_of c.args.parent.now.element.now) c.args.new.now (FitsInsertionPoint c.args.parent.now.kind c.args.parent.now.scope.now c.args.parent.now.element.now.content c.args.new.now)
       (λ f. true_false c.can_be_selected.result (c.can_be_selected.ensures.exact.1 f) c.if-not-can_be_selected.true);
 }

@@ -9,6 +9,6 @@ pub returns-then-takes_last_gap : goal.returns-then-takes_last_gap
 returns-then-takes_last_gap c = record {
   lawful_plan =
       let last = c.takes_last_gap.ensures.fits_any_order c.if-takes_last_gap.true in
-      last_of_all Unlawful Invalid (is_named c.args.scope.now c.args.step.now) (is_tested c.args.scope.now c.args.step.now) c.args.step.now.position (child_elements_of c.args.parent.now) c.args.new.now (FitsInsertionPoint c.args.row c.args.scope.now c.args.parent.now.content c.args.new.now) c.count_children-many.result
+      last_of_all Unlawful Invalid (is_named c.args.parent.now.scope.now c.args.step.now) (is_tested c.args.parent.now.scope.now c.args.step.now) c.args.step.now.position (child_elements_of c.args.parent.now.element.now) c.args.new.now (FitsInsertionPoint c.args.parent.now.kind c.args.parent.now.scope.now c.args.parent.now.element.now.content c.args.new.now) c.count_children-many.result
       c.count_children-many.ensures.exact last.0 c.requires.name_matches c.requires.test_matches c.requires.position_free last.1;
 }

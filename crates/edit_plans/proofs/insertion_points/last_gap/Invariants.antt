@@ -11,11 +11,11 @@ use Rattle.edit_plans.proofs.insertion_points.last_gap.Given as goal
 
 abbrev pub invariant-loop-node : goal.invariant-loop-node
 invariant-loop-node l = record {
-  left : drop l.i (child_elements_of l.parent) ≡ child_elements (content_of (drop l.node-index l.node-items));
-  within : l.i ≤ length (child_elements_of l.parent);
+  left : drop l.i (child_elements_of l.parent.element.now) ≡ child_elements (content_of (drop l.node-index l.node-items));
+  within : l.i ≤ length (child_elements_of l.parent.element.now);
   small : l.i ≤ l.node-index;
-  counted : l.before ≡ count_by (is_named l.scope l.step) (take l.i (child_elements_of l.parent));
+  counted : l.before ≡ count_by (is_named l.parent.scope.now l.step) (take l.i (child_elements_of l.parent.element.now));
   few : l.before ≤ l.i;
-  prev : ForSome l.row (λ kind. l.prev ≡ part_before kind l.scope 0 l.i l.parent.content);
-  plan : IsInsertionPlan Unlawful Invalid (IsLawfulInsertion (is_named l.scope l.step) (is_tested l.scope l.step) l.step.position (child_elements_of l.parent) l.new) (FitsInsertionPoint l.row l.scope l.parent.content l.new) l.i l.answer;
+  prev : ForSome l.parent.kind (λ kind. l.prev ≡ part_before kind l.parent.scope.now 0 l.i l.parent.element.now.content);
+  plan : IsInsertionPlan Unlawful Invalid (IsLawfulInsertion (is_named l.parent.scope.now l.step) (is_tested l.parent.scope.now l.step) l.step.position (child_elements_of l.parent.element.now) l.new) (FitsInsertionPoint l.parent.kind l.parent.scope.now l.parent.element.now.content l.new) l.i l.answer;
 }

@@ -10,9 +10,9 @@ use Rattle.edit_plans.proofs.remove_child.next_passes.Goals.{in-Elem+else-is_nex
 pub returns-then-is_next : goal.returns-then-is_next
 returns-then-is_next c = record {
   exact =
-      let xs = child_elements_of c.args.parent.now in
-      let named = is_named c.args.scope.now c.args.step.now in
-      let tested = is_tested c.args.scope.now c.args.step.now in
+      let xs = child_elements_of c.args.parent.now.element.now in
+      let named = is_named c.args.parent.now.scope.now c.args.step.now in
+      let tested = is_tested c.args.parent.now.scope.now c.args.step.now in
       let inv = c.loop-node.invariant in
       let at = at_elem c.nodes-node-items.result.now c.loop-node.node-index c.loop-node.i xs c.in-Elem.child_element c.node-item.result inv.left c.loop-node-test.true c.node-item.is c.in-Elem.is in
       let both = c.is_next.ensures.exact.0 c.if-is_next.true in (
@@ -23,10 +23,10 @@ returns-then-is_next c = record {
 
 pub loop-node-preserved : goal.loop-node-preserved
 loop-node-preserved c =
-    let xs = child_elements_of c.args.parent.now in
+    let xs = child_elements_of c.args.parent.now.element.now in
     let ns = c.nodes-node-items.result.now in
-    let named = is_named c.args.scope.now c.args.step.now in
-    let tested = is_tested c.args.scope.now c.args.step.now in
+    let named = is_named c.args.parent.now.scope.now c.args.step.now in
+    let tested = is_tested c.args.parent.now.scope.now c.args.step.now in
     let inv = c.loop-node.invariant in
     elim c.match-node.branch [
       | in-Elem+else-is_next w ↦
@@ -50,8 +50,8 @@ loop-node-preserved c =
 pub returns : goal.returns
 returns c = record {
   exact =
-      let xs = child_elements_of c.args.parent.now in
+      let xs = child_elements_of c.args.parent.now.element.now in
       let inv = c.loop-node.invariant in
       let last = at_end c.nodes-node-items.result.now c.loop-node.node-index c.loop-node.i xs inv.left c.loop-node-test.false inv.within in
-      (λ h. absurd (true_false false h refl), λ m. absurd (no_next (is_named c.args.scope.now c.args.step.now) (is_tested c.args.scope.now c.args.step.now) xs c.args.child c.loop-node.i (omega arith) inv.none m));
+      (λ h. absurd (true_false false h refl), λ m. absurd (no_next (is_named c.args.parent.now.scope.now c.args.step.now) (is_tested c.args.parent.now.scope.now c.args.step.now) xs c.args.child c.loop-node.i (omega arith) inv.none m));
 }

@@ -7,8 +7,8 @@ use Rattle.edit_plans.proofs.remove_child.next_passes.Given as goal
 
 abbrev pub invariant-loop-node : goal.invariant-loop-node
 invariant-loop-node l = record {
-  left : drop l.i (child_elements_of l.parent) ≡ child_elements (content_of (drop l.node-index l.node-items));
-  within : l.i ≤ length (child_elements_of l.parent);
+  left : drop l.i (child_elements_of l.parent.element.now) ≡ child_elements (content_of (drop l.node-index l.node-items));
+  within : l.i ≤ length (child_elements_of l.parent.element.now);
   small : l.i ≤ l.node-index;
-  none : NoneNamed (is_named l.scope l.step) (is_tested l.scope l.step) (child_elements_of l.parent) l.child l.i;
+  none : NoneNamed (is_named l.parent.scope.now l.step) (is_tested l.parent.scope.now l.step) (child_elements_of l.parent.element.now) l.child l.i;
 }

@@ -8,18 +8,18 @@ use Rattle.edit_plans.proofs.remove_child.part_after_child.Goals.{in-Elem+else-c
 pub returns-then-child-i : goal.returns-then-child-i
 returns-then-child-i c = record {
   exact =
-      let xs = child_elements_of c.args.parent.now in
+      let xs = child_elements_of c.args.parent.now.element.now in
       let inv = c.loop-node.invariant in
       let at = at_elem c.nodes-node-items.result.now c.loop-node.node-index c.loop-node.i xs c.in-Elem.child_element c.node-item.result inv.left c.loop-node-test.true c.node-item.is c.in-Elem.is in
       let past = c.if-child-i.true in
       let upto = inv.not_past in
       let same : c.loop-node.i ≡ suc c.args.child = omega arith in
-      right_kid c.args.row c.args.scope.now c.args.parent.now.content c.args.child c.loop-node.i c.in-Elem.child_element c.part_in.result same at.0 c.part_in.ensures.child_part;
+      right_kid c.args.parent.now.kind c.args.parent.now.scope.now c.args.parent.now.element.now.content c.args.child c.loop-node.i c.in-Elem.child_element c.part_in.result same at.0 c.part_in.ensures.child_part;
 }
 
 pub loop-node-preserved : goal.loop-node-preserved
 loop-node-preserved c =
-    let xs = child_elements_of c.args.parent.now in
+    let xs = child_elements_of c.args.parent.now.element.now in
     let ns = c.nodes-node-items.result.now in
     let inv = c.loop-node.invariant in
     elim c.match-node.branch [
@@ -45,9 +45,9 @@ loop-node-preserved c =
 pub returns : goal.returns
 returns c = record {
   exact =
-      let xs = child_elements_of c.args.parent.now in
+      let xs = child_elements_of c.args.parent.now.element.now in
       let inv = c.loop-node.invariant in
       let last = at_end c.nodes-node-items.result.now c.loop-node.node-index c.loop-node.i xs inv.left c.loop-node-test.false inv.within in
       let upto = inv.not_past in
-      right_end c.args.row c.args.scope.now c.args.parent.now.content c.args.child (omega arith);
+      right_end c.args.parent.now.kind c.args.parent.now.scope.now c.args.parent.now.element.now.content c.args.child (omega arith);
 }

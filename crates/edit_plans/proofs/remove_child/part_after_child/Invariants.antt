@@ -5,8 +5,8 @@ use Rattle.edit_plans.proofs.remove_child.part_after_child.Given as goal
 
 abbrev pub invariant-loop-node : goal.invariant-loop-node
 invariant-loop-node l = record {
-  left : drop l.i (child_elements_of l.parent) ≡ child_elements (content_of (drop l.node-index l.node-items));
-  within : l.i ≤ length (child_elements_of l.parent);
+  left : drop l.i (child_elements_of l.parent.element.now) ≡ child_elements (content_of (drop l.node-index l.node-items));
+  within : l.i ≤ length (child_elements_of l.parent.element.now);
   small : l.i ≤ l.node-index;
   not_past : l.i ≤ l.child + 1;
 }

@@ -10,14 +10,14 @@ use Rattle.edit_plans.proofs.siblings.find_child_with_key.Goals.{in-Elem+else-is
 
 pub returns-then-is_sibling_with_key-clause-some_is_marked : goal.returns-then-is_sibling_with_key-clause-some_is_marked
 returns-then-is_sibling_with_key-clause-some_is_marked c =
-    let xs = child_elements_of c.args.siblings.now.parent.now in
+    let xs = child_elements_of c.args.parent.now.element.now in
     let at = at_elem c.nodes-node-items.result.now c.loop-node.node-index c.loop-node.i xs c.in-Elem.child_element c.node-item.result c.loop-node.invariant.left c.loop-node-test.true c.node-item.is c.in-Elem.is in
     let both = c.is_sibling_with_key.ensures.exact.0 c.if-is_sibling_with_key.true in
-    (both.0, ap (option_and_then (sibling_key_of c.args.row c.args.scope.now)) at.0 ∙ both.1)
+    (both.0, ap (option_and_then (sibling_key_of c.args.row c.args.parent.now.scope.now)) at.0 ∙ both.1)
 
 pub loop-node-preserved : goal.loop-node-preserved
 loop-node-preserved c =
-    let xs = child_elements_of c.args.siblings.now.parent.now in
+    let xs = child_elements_of c.args.parent.now.element.now in
     let ns = c.nodes-node-items.result.now in
     let inv = c.loop-node.invariant in
     elim c.match-node.branch [
@@ -28,7 +28,7 @@ loop-node-preserved c =
             left = rw (w.i-is, add-one, add-one) at.2;
             within = omega arith;
             small = omega arith;
-            none = no_more_marked c.args.row c.args.scope.now xs (sibling_key c.args.kind (chars c.args.value.now)) c.args.siblings.now.left_out c.loop-node.i c.match-node.i w.in-Elem.child_element w.i-is at.0 (λ h. true_false w.is_sibling_with_key.result (w.is_sibling_with_key.ensures.exact.1 h) w.if-is_sibling_with_key.false) inv.none;
+            none = no_more_marked c.args.row c.args.parent.now.scope.now xs (sibling_key c.args.kind (chars c.args.value.now)) c.args.left_out c.loop-node.i c.match-node.i w.in-Elem.child_element w.i-is at.0 (λ h. true_false w.is_sibling_with_key.result (w.is_sibling_with_key.ensures.exact.1 h) w.if-is_sibling_with_key.false) inv.none;
           })
       | in_default w ↦
           (record {
@@ -41,7 +41,7 @@ loop-node-preserved c =
 
 pub returns-clause-none_is_marked : goal.returns-clause-none_is_marked
 returns-clause-none_is_marked c =
-    let xs = child_elements_of c.args.siblings.now.parent.now in
+    let xs = child_elements_of c.args.parent.now.element.now in
     let inv = c.loop-node.invariant in
     let last = at_end c.nodes-node-items.result.now c.loop-node.node-index c.loop-node.i xs inv.left c.loop-node-test.false inv.within in
-    λ _. none_marked c.args.row c.args.scope.now xs (sibling_key c.args.kind (chars c.args.value.now)) c.args.siblings.now.left_out c.loop-node.i last inv.none
+    λ _. none_marked c.args.row c.args.parent.now.scope.now xs (sibling_key c.args.kind (chars c.args.value.now)) c.args.left_out c.loop-node.i last inv.none

@@ -8,8 +8,8 @@ use Rattle.edit_plans.proofs.siblings.find_child_with_key.Given as goal
 
 abbrev pub invariant-loop-node : goal.invariant-loop-node
 invariant-loop-node l = record {
-  left : drop l.i (child_elements_of l.siblings.parent.now) ≡ child_elements (content_of (drop l.node-index l.node-items));
-  within : l.i ≤ length (child_elements_of l.siblings.parent.now);
+  left : drop l.i (child_elements_of l.parent.element.now) ≡ child_elements (content_of (drop l.node-index l.node-items));
+  within : l.i ≤ length (child_elements_of l.parent.element.now);
   small : l.i ≤ l.node-index;
-  none : NoneMarked l.row l.scope (child_elements_of l.siblings.parent.now) (sibling_key l.kind (chars l.value)) l.siblings.left_out l.i;
+  none : NoneMarked l.row l.parent.scope.now (child_elements_of l.parent.element.now) (sibling_key l.kind (chars l.value)) l.left_out l.i;
 }

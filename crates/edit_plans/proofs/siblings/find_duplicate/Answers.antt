@@ -9,33 +9,33 @@ use Rattle.edit_plans.proofs.siblings.find_duplicate.Goals as goal
 
 pub returns-in_default-clause-none_is_marked : goal.returns-in_default-clause-none_is_marked
 returns-in_default-clause-none_is_marked c = λ _.
-    no_twin_unmarked c.args.row c.args.scope.now (siblings_without c.args.siblings.now.left_out (child_elements_of c.args.siblings.now.parent.now)) c.args.new.now (unmarked_kind c.args.row c.args.scope.now c.args.new.now (sym c.kind_of_child.ensures.child_kind ∙ c.in_default.is))
+    no_twin_unmarked c.args.row c.args.parent.now.scope.now (siblings_without c.args.left_out (child_elements_of c.args.parent.now.element.now)) c.args.new.now (unmarked_kind c.args.row c.args.parent.now.scope.now c.args.new.now (sym c.kind_of_child.ensures.child_kind ∙ c.in_default.is))
 
 pub returns-in_default-key_of-clause-none_is_marked : goal.returns-in_default-key_of-clause-none_is_marked
 returns-in_default-key_of-clause-none_is_marked c = λ _.
-    no_twin_unmarked c.args.row c.args.scope.now (siblings_without c.args.siblings.now.left_out (child_elements_of c.args.siblings.now.parent.now)) c.args.new.now
-    (unmarked_key c.args.row c.args.scope.now c.args.new.now c.in-Some.kind (sym c.kind_of_child.ensures.child_kind ∙ c.in-Some.is) (sym c.key_of.ensures.exact ∙ c.in_default-key_of.is))
+    no_twin_unmarked c.args.row c.args.parent.now.scope.now (siblings_without c.args.left_out (child_elements_of c.args.parent.now.element.now)) c.args.new.now
+    (unmarked_key c.args.row c.args.parent.now.scope.now c.args.new.now c.in-Some.kind (sym c.kind_of_child.ensures.child_kind ∙ c.in-Some.is) (sym c.key_of.ensures.exact ∙ c.in_default-key_of.is))
 
 pub returns-in_default-value_of-clause-none_is_marked : goal.returns-in_default-value_of-clause-none_is_marked
 returns-in_default-value_of-clause-none_is_marked c = λ _.
-    no_twin_unmarked c.args.row c.args.scope.now (siblings_without c.args.siblings.now.left_out (child_elements_of c.args.siblings.now.parent.now)) c.args.new.now
-    (unmarked_value c.args.row c.args.scope.now c.args.new.now c.in-Some.kind c.in-Some-key_of.key (sym c.kind_of_child.ensures.child_kind ∙ c.in-Some.is) (sym c.key_of.ensures.exact ∙ c.in-Some-key_of.is)
+    no_twin_unmarked c.args.row c.args.parent.now.scope.now (siblings_without c.args.left_out (child_elements_of c.args.parent.now.element.now)) c.args.new.now
+    (unmarked_value c.args.row c.args.parent.now.scope.now c.args.new.now c.in-Some.kind c.in-Some-key_of.key (sym c.kind_of_child.ensures.child_kind ∙ c.in-Some.is) (sym c.key_of.ensures.exact ∙ c.in-Some-key_of.is)
     (ap (value_of c.in-Some-key_of.key) (sym c.attrs.ensures.exact) ∙ sym c.value_of.ensures.exact ∙ ap (λ o. option_map (λ text. chars text.now) o) c.in_default-value_of.is))
 
 pub returns-in_default-find_child_with_key-clause-none_is_marked : goal.returns-in_default-find_child_with_key-clause-none_is_marked
 returns-in_default-find_child_with_key-clause-none_is_marked c = λ _.
     let value = ap (value_of c.in-Some-key_of.key) (sym c.attrs.ensures.exact) ∙ sym c.value_of.ensures.exact ∙ ap (λ o. option_map (λ text. chars text.now) o) c.in-Some-value_of.is in
-    no_twin_marked c.args.row c.args.scope.now c.args.siblings.now.left_out (child_elements_of c.args.siblings.now.parent.now) c.args.new.now (sibling_key c.in-Some.kind (chars c.in-Some-value_of.value.now))
-    (mark_with c.args.row c.args.scope.now c.args.new.now c.in-Some.kind c.in-Some-key_of.key (chars c.in-Some-value_of.value.now) (sym c.kind_of_child.ensures.child_kind ∙ c.in-Some.is) (sym c.key_of.ensures.exact ∙ c.in-Some-key_of.is) value)
+    no_twin_marked c.args.row c.args.parent.now.scope.now c.args.left_out (child_elements_of c.args.parent.now.element.now) c.args.new.now (sibling_key c.in-Some.kind (chars c.in-Some-value_of.value.now))
+    (mark_with c.args.row c.args.parent.now.scope.now c.args.new.now c.in-Some.kind c.in-Some-key_of.key (chars c.in-Some-value_of.value.now) (sym c.kind_of_child.ensures.child_kind ∙ c.in-Some.is) (sym c.key_of.ensures.exact ∙ c.in-Some-key_of.is) value)
     (c.find_child_with_key.ensures.none_is_marked c.in_default-find_child_with_key.is)
 
 pub returns-clause-some_is_marked : goal.returns-clause-some_is_marked
 returns-clause-some_is_marked c =
     let value = ap (value_of c.in-Some-key_of.key) (sym c.attrs.ensures.exact) ∙ sym c.value_of.ensures.exact ∙ ap (λ o. option_map (λ text. chars text.now) o) c.in-Some-value_of.is in
-    let xs = child_elements_of c.args.siblings.now.parent.now in
-    let left_out = c.args.siblings.now.left_out in
+    let xs = child_elements_of c.args.parent.now.element.now in
+    let left_out = c.args.left_out in
     let m = sibling_key c.in-Some.kind (chars c.in-Some-value_of.value.now) in
-    let there = subst (λ (o : Option ℕ). IfSome o (λ i. (left_out ≡ Some i → ⊥) × (sibling_key_at c.args.row c.args.scope.now xs i ≡ Some m))) c.in-Some-find_child_with_key.is c.find_child_with_key.ensures.some_is_marked in
-    let here = mark_among c.args.row c.args.scope.now left_out xs c.in-Some-find_child_with_key.child m there.0 there.1 in
-    twin_is c.args.row c.args.scope.now (siblings_without left_out xs) c.args.new.now c.in-Some.kind c.in-Some-key_of.key (chars c.in-Some-value_of.value.now) c.number_among_siblings.result (sym c.kind_of_child.ensures.child_kind ∙ c.in-Some.is) (sym c.key_of.ensures.exact ∙ c.in-Some-key_of.is) value
-    (ap (sibling_key_at c.args.row c.args.scope.now (siblings_without left_out xs)) c.number_among_siblings.ensures.exact ∙ here)
+    let there = subst (λ (o : Option ℕ). IfSome o (λ i. (left_out ≡ Some i → ⊥) × (sibling_key_at c.args.row c.args.parent.now.scope.now xs i ≡ Some m))) c.in-Some-find_child_with_key.is c.find_child_with_key.ensures.some_is_marked in
+    let here = mark_among c.args.row c.args.parent.now.scope.now left_out xs c.in-Some-find_child_with_key.child m there.0 there.1 in
+    twin_is c.args.row c.args.parent.now.scope.now (siblings_without left_out xs) c.args.new.now c.in-Some.kind c.in-Some-key_of.key (chars c.in-Some-value_of.value.now) c.number_among_siblings.result (sym c.kind_of_child.ensures.child_kind ∙ c.in-Some.is) (sym c.key_of.ensures.exact ∙ c.in-Some-key_of.is) value
+    (ap (sibling_key_at c.args.row c.args.parent.now.scope.now (siblings_without left_out xs)) c.number_among_siblings.ensures.exact ∙ here)

@@ -8,7 +8,7 @@ pub returns-in-Done : goal.returns-in-Done
 returns-in-Done c =
     let head = c.args.head in
     let bytes : List ℕ = c.args.held.now.bytes in
-    let d = c.args.data.now.decoding in
+    let d = c.args.chunks.now.decoding in
     let few : c.args.used ≤ length (drop head bytes) = omega (arith, length-drop head bytes, c.requires) in
     record {
       answers = λ given old i reads all. c.read_decoded.ensures.answers given d
@@ -19,20 +19,20 @@ returns-in-Done c =
 pub returns-in-TooLong : goal.returns-in-TooLong
 returns-in-TooLong c = record {
   answers = λ given old i reads all. decided_long c.args.before given c.args.held.now.bytes
-      (chunks_long c.args.head c.args.held.now.bytes old given i c.args.used c.args.data.now.decoding reads (sym c.state.ensures.exact ∙ c.in-TooLong.is));
+      (chunks_long c.args.head c.args.held.now.bytes old given i c.args.used c.args.chunks.now.decoding reads (sym c.state.ensures.exact ∙ c.in-TooLong.is));
 }
 
 pub returns-in-Bad : goal.returns-in-Bad
 returns-in-Bad c = record {
   answers = λ given old i reads all. decided_bad c.args.before given c.args.held.now.bytes
-      (chunks_bad c.args.head c.args.held.now.bytes old given i c.args.used c.args.data.now.decoding reads (sym c.state.ensures.exact ∙ c.in-Bad.is));
+      (chunks_bad c.args.head c.args.held.now.bytes old given i c.args.used c.args.chunks.now.decoding reads (sym c.state.ensures.exact ∙ c.in-Bad.is));
 }
 
 pub returns-in_default : goal.returns-in_default
 returns-in_default c =
     let head = c.args.head in
     let bytes : List ℕ = c.args.held.now.bytes in
-    let d = c.args.data.now.decoding in
+    let d = c.args.chunks.now.decoding in
     let state = c.state.ensures.exact in
     let going : is_settled d.stage ≡ false = goes_still d.stage (λ is. c.in_default.not-Done (state ∙ is)) (λ is. c.in_default.not-Bad (state ∙ is)) (λ is. c.in_default.not-TooLong (state ∙ is)) in
     let front = c.truncate.ensures.exact in

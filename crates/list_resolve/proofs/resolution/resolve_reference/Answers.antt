@@ -13,8 +13,8 @@ returns-in-Err-Fault-clause-exact c =
     fault_led (context_view c.args.ground.now) c.args.reference.now c.as_bytes-target.result.now c.in-Err-Fault.field-0 c.in-Err-Fault.field-0-0 (c.as_bytes-target.ensures.value ∙ c.as_str.ensures.utf8_bytes) c.in-Err-Fault.field-0-is
     c.in-Err-Fault.ensures.rules_answer
 
-pub returns-in-Ok-clause-lead_is_there : goal.returns-in-Ok-clause-lead_is_there
-returns-in-Ok-clause-lead_is_there c =
+pub returns-in-Ok-clause-reference_exists : goal.returns-in-Ok-clause-reference_exists
+returns-in-Ok-clause-reference_exists c =
     found_there (context_view c.args.ground.now) c.args.reference.now c.resolve_target.result
     (
     c.resolve_target.ensures.exact

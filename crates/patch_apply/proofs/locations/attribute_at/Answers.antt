@@ -7,7 +7,7 @@ use Rattle.patch_apply.proofs.locations.attribute_at.Goals as goal
 
 pub returns-in_err-place : goal.returns-in_err-place
 returns-in_err-place c = record {
-  selected_spot =
+  selected_location =
       let t = c.args.tree.now in let e = c.args.element.now in let p = c.args.path in
       let scope = scope_is t e p c.requires c.in_ok-scope.scope (c.in_ok-scope.ensures {u = tt}).exact in
       let f = is_attr_named (scope_at p t) c.args.uri.now c.args.local.now in
@@ -19,7 +19,7 @@ returns-in_err-place c = record {
 
 pub returns : goal.returns
 returns c = record {
-  selected_spot =
+  selected_location =
       let t = c.args.tree.now in let e = c.args.element.now in let p = c.args.path in
       let scope = scope_is t e p c.requires c.in_ok-scope.scope (c.in_ok-scope.ensures {u = tt}).exact in
       let f = is_attr_named (scope_at p t) c.args.uri.now c.args.local.now in

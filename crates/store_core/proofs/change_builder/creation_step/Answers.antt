@@ -4,7 +4,7 @@ use Rattle.usage_docs.specs.Services.{document_len}
 use Rattle.doc_names.specs.declared.doc_id.DocId.{DocId}
 use Rattle.edit_ops.specs.InsertedElements.{inserted_element}
 use Rattle.store_core.specs.declared.entry.Entry.{Entry}
-use Rattle.store_core.specs.declared.step.Step.TheVariants.{Make}
+use Rattle.store_core.specs.declared.step.EntryStep.TheVariants.{Make}
 use Rattle.store_core.specs.inner.Prints.{IsPrintOf}
 use Rattle.store_core.specs.StoreViews.{new_entry}
 use Rattle.store_core.proofs.change_builder.creation_step.Goals as goal

@@ -2,7 +2,7 @@ use Rattle.std.proofs.Common.{◌≡◌, ℕ, List, [], false, ap, ◌∙◌}
 use Rattle.xml_tree.specs.Tree.{Tree, last}
 use Rattle.edit_ops.specs.declared.change.Change.TheVariants.{RemoveDocument}
 use Rattle.edit_ops.specs.Notes.{Note}
-use Rattle.store_core.specs.declared.step.Step.TheVariants.{End}
+use Rattle.store_core.specs.declared.step.EntryStep.TheVariants.{End}
 use Rattle.store_core.specs.PreparedChanges.{PreparedChange}
 use Rattle.store_core.proofs.change_builder.prepare_removal.Goals as goal
 

@@ -2,7 +2,7 @@ use Rattle.std.proofs.Common.{sym, ap, subst, ◌∙◌}
 use Rattle.usage_docs.specs.Services.{document_len}
 use Rattle.edit_ops.specs.InsertedElements.{InsertsElement, inserted_element}
 use Rattle.edit_ops.specs.Notes.{Note}
-use Rattle.store_core.specs.declared.step.Step.TheVariants.{Make}
+use Rattle.store_core.specs.declared.step.EntryStep.TheVariants.{Make}
 use Rattle.store_core.specs.inner.Prints.{IsPrintOf}
 use Rattle.store_core.specs.StoreViews.{new_entry}
 use Rattle.store_core.proofs.change_builder.record_creation.Goals as goal

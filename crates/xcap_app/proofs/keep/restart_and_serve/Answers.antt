@@ -35,7 +35,7 @@ returns-clause-keeps_command g c = λ output output' s.
     let read = journal_read (i c.args.input.now) (i c.restart.new.source) _ _ c.args.server.now c.restart.new.replayer c.requires.empty c.restart.ensures.same_subject c.in-Ok.log restarts in
     let journal : OldJournal = record { bytes = restarts.bytes; requests = restarts.requests; rest = restarts.rest; state = read.0.state } in
     let root : c.restart.new.replayer.root ≡ c.args.server.now.root = c.restart.ensures.same_subject in
-    let kept = c.serve_logged.ensures.keeps_on journal read.0.kept read.0.stands read.0.redone restarts.told restarts.ending.4 in
+    let kept = c.serve_logged.ensures.keeps_on journal read.0.kept read.0.stands read.0.redone restarts.recorded restarts.ending.4 in
     keeps_on journal read.1 s.just_written
     (keeps_so g.W.Watchers.keeps (λ bytes. later.held ≡ bytes) (TakesBytes output.taken output'.taken) (0 < later.faults) (CountRises output.write_faults output'.write_faults) (λ bytes held. wrote output output' later bytes s held) s.cause (record { address = c.args.address.now; root = c.args.server.now.root; count = c.args.count }) journal
     (record { port = p c.args.port.now; watchers = c.args.watchers.now }) (record { port = p c.serve_logged.new.port; watchers = c.serve_logged.new.watchers }) c.serve_logged.result

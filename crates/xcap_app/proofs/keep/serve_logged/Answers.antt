@@ -14,34 +14,34 @@ pub serve_port_logged-served-requires-clause-room_left : goal.serve_port_logged-
 serve_port_logged-served-requires-clause-room_left g c = omega (arith, c.requires.length_bounded, c.ranges.count.fits)
 
 pub returns-in-Err-clause-keeps_on : goal.returns-in-Err-clause-keeps_on
-returns-in-Err-clause-keeps_on g c = λ read kept stands redone told held.
+returns-in-Err-clause-keeps_on g c = λ read kept stands redone recorded held.
     inl (c.in-Err.ensures.listens_or_fails, held, refl)
 
 pub returns-then-has_failed-clause-keeps_on : goal.returns-then-has_failed-clause-keeps_on
-returns-then-has_failed-clause-keeps_on g c = λ read kept stands redone told held.
+returns-then-has_failed-clause-keeps_on g c = λ read kept stands redone recorded held.
     let p = g.P.Line.state in
     let s = c.args.server.now in
-    let holds = holds_whole (AcceptsRequest (ValidStep s.root) read.state) c.args.log.now read.requests _ c.requires.not_torn c.requires.fits told held in
+    let holds = holds_whole (AcceptsRequest (ValidStep s.root) read.state) c.args.log.now read.requests _ c.requires.not_torn c.requires.fits recorded held in
     kept_failed g.W.Watchers.keeps c.args.address.now c.args.count c.serve_port_logged-served.result read s c.serve_port_logged-served.new.server _ c.serve_port_logged-served.new.log _ _
     (record { port = p c.args.port.now; watchers = c.args.watchers.now }) (record { port = p c.serve_port_logged-served.new.port; watchers = c.serve_port_logged-served.new.watchers }) (p c.listen.new.self)
     c.requires.no_fault c.serve_port_logged-served.ensures.still_fits redone c.in_default.ensures.listens_or_fails (c.serve_port_logged-served.ensures.machine_session read.state read.requests kept stands holds)
     (sym c.has_failed.ensures.exact ∙ c.if-has_failed.true)
 
 pub returns-in-PortFailed-clause-keeps_on : goal.returns-in-PortFailed-clause-keeps_on
-returns-in-PortFailed-clause-keeps_on g c = λ read kept stands redone told held.
+returns-in-PortFailed-clause-keeps_on g c = λ read kept stands redone recorded held.
     let p = g.P.Line.state in
     let s = c.args.server.now in
-    let holds = holds_whole (AcceptsRequest (ValidStep s.root) read.state) c.args.log.now read.requests _ c.requires.not_torn c.requires.fits told held in
+    let holds = holds_whole (AcceptsRequest (ValidStep s.root) read.state) c.args.log.now read.requests _ c.requires.not_torn c.requires.fits recorded held in
     kept_port_failed g.W.Watchers.keeps c.args.address.now c.args.count c.serve_port_logged-served.result read s c.serve_port_logged-served.new.server _ c.serve_port_logged-served.new.log _ _
     (record { port = p c.args.port.now; watchers = c.args.watchers.now }) (record { port = p c.serve_port_logged-served.new.port; watchers = c.serve_port_logged-served.new.watchers }) (p c.listen.new.self)
     c.requires.no_fault c.serve_port_logged-served.ensures.still_fits redone c.in_default.ensures.listens_or_fails (c.serve_port_logged-served.ensures.machine_session read.state read.requests kept stands holds)
     (sym c.has_failed.ensures.exact ∙ c.if-has_failed.false) c.in-PortFailed.is
 
 pub returns-in-Count-clause-keeps_on : goal.returns-in-Count-clause-keeps_on
-returns-in-Count-clause-keeps_on g c = λ read kept stands redone told held.
+returns-in-Count-clause-keeps_on g c = λ read kept stands redone recorded held.
     let p = g.P.Line.state in
     let s = c.args.server.now in
-    let holds = holds_whole (AcceptsRequest (ValidStep s.root) read.state) c.args.log.now read.requests _ c.requires.not_torn c.requires.fits told held in
+    let holds = holds_whole (AcceptsRequest (ValidStep s.root) read.state) c.args.log.now read.requests _ c.requires.not_torn c.requires.fits recorded held in
     kept_done g.W.Watchers.keeps c.args.address.now c.args.count c.serve_port_logged-served.result read s c.serve_port_logged-served.new.server _ c.serve_port_logged-served.new.log _ _
     (record { port = p c.args.port.now; watchers = c.args.watchers.now }) (record { port = p c.serve_port_logged-served.new.port; watchers = c.serve_port_logged-served.new.watchers }) (p c.listen.new.self)
     c.requires.no_fault c.serve_port_logged-served.ensures.still_fits redone c.in_default.ensures.listens_or_fails (c.serve_port_logged-served.ensures.machine_session read.state read.requests kept stands holds)

@@ -11,5 +11,5 @@ invariant_of-self c =
     let asked = c.requires in
     let fits : length c.args.bytes.now ≤ self.held.room = omega (arith, asked, rooms) in
     let some : 0 < length c.args.bytes.now = search rules in
-    with_more self.place self.held c.add.new.self self.data self.given.history.now.given _ c.args.bytes.now self.requests self.spent c.self.invariant c.add.ensures.exact
+    with_more self.place self.held c.add.new.self self.chunks self.given.history.now.given _ c.args.bytes.now self.requests self.spent c.self.invariant c.add.ensures.exact
     (ap (λ (h : ConnectionHistory). h.now.given) c.record_read.ensures.given_is_logged) fits some

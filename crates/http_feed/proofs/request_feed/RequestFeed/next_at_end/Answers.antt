@@ -20,7 +20,7 @@ returns-clause-last_item c = λ stays.
     let holds = c.self.invariant.holds in
     let empty = c.is_empty.ensures.exact in
     subst (λ (r : RequestReaderState). ReturnsItem true old c.if-is_empty.asked r) (sym last) (elim c.if-is_empty.branch [
-      | then-is_empty w ↦ subst (λ (a : Asked). ReturnsItem true old a (spent_reader old.requests)) (sym w.asked-is) (ends old (sym held ∙ none_given self.place self.held.bytes self.data.decoding given holds (empty.0 w.if-is_empty.true)))
+      | then-is_empty w ↦ subst (λ (a : Asked). ReturnsItem true old a (spent_reader old.requests)) (sym w.asked-is) (ends old (sym held ∙ none_given self.place self.held.bytes self.chunks.decoding given holds (empty.0 w.if-is_empty.true)))
       | else-is_empty w ↦ subst (λ (a : Asked). ReturnsItem true old a (spent_reader old.requests)) (sym w.asked-is)
-          (ends_cut old waits.0 (λ none. let found = empty.1 (none_held self.place self.held.bytes self.data.decoding given holds (held ∙ none)) in let other = w.if-is_empty.false in let e : ⊥ = cc in e))
+          (ends_cut old waits.0 (λ none. let found = empty.1 (none_held self.place self.held.bytes self.chunks.decoding given holds (held ∙ none)) in let other = w.if-is_empty.false in let e : ⊥ = cc in e))
     ])

@@ -6,7 +6,7 @@ use Rattle.watchers.proofs.watchers.OptionWatchersEdit.notify.Goals as goal
 pub returns-then-not-notify_one : goal.returns-then-not-notify_one
 returns-then-not-notify_one g c = record {
   notifies_change = subst
-      (λ w. RemainOrLeave g.B.Watcher.told_list g.B.Watcher.faults g.B.Watcher.never_refuses g.B.Watcher.answers g.B.Watcher.written (c.args.edit.now ∷ []) (option_to_list w) [])
+      (λ w. RemainOrLeave g.B.Watcher.watcher_state (c.args.edit.now ∷ []) (option_to_list w) [])
       (sym c.in-Some.is)
-      (one_left _ _ _ _ _ _ _ _ (c.if-not-notify_one.ensures.false_has_left refl));
+      (one_left _ _ _ _ (c.if-not-notify_one.ensures.false_has_left refl));
 }

@@ -10,7 +10,7 @@ use xcap_io::NoMemory;
 
 // The bytes given and not used yet: the end of a buffer that grows by need.
 #[derive(Drop)]
-pub struct HeldBytes {
+pub struct ReadBuffer {
     buffer: Vec<u8>,
     // the bytes before it are used
     start: usize,
@@ -18,12 +18,12 @@ pub struct HeldBytes {
     room: usize,
 }
 
-impl Model for HeldBytes {
+impl Model for ReadBuffer {
     ghost use Rattle.std.specs.Prelude.{◌-◌, ◌+◌, ◌≤◌, length, drop, vec_capacity};
     ghost use Rattle.http_wire.specs.declared.limits.TheConstants.{MAX_HELD_BYTES};
-    ghost use Rattle.http_feed.specs.inner.Buffers.{HeldState};
+    ghost use Rattle.http_feed.specs.inner.Buffers.{ReadBufferState};
 
-    ghost Value = { HeldState };
+    ghost Value = { ReadBufferState };
 
     ghost view = { λ h. record {
       bytes = drop h.start h.buffer.items;
@@ -50,12 +50,12 @@ fn remove_front(buffer: &mut Vec<u8>, count: usize)
     }
 }
 
-impl HeldBytes {
+impl ReadBuffer {
     // An empty buffer. Does not allocate.
-    pub fn new(alloc: Global) -> HeldBytes
+    pub fn new(alloc: Global) -> ReadBuffer
         ensures exact { result ≡ no_bytes }
     {
-        HeldBytes {
+        ReadBuffer {
             buffer: Vec::new(alloc),
             start: 0,
             room: 0,

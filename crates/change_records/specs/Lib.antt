@@ -1,0 +1,4 @@
+pub mod ReadFields
+pub mod Readings
+pub mod Records
+pub mod inner

@@ -1,0 +1,2 @@
+pub mod DurableAnswers
+pub mod Restarts
