@@ -13,7 +13,7 @@ block bytes = to_be_bytes w32 (length bytes) ++ bytes
 abbrev pub stated_length : List ℕ → ℕ
 stated_length bytes = from_be_bytes w32 (take 4 bytes)
 
--- so many of the bytes, and the others, if there are so many
+-- the first `len` bytes, and the others, if there are at least `len`
 abbrev pub split_at : ℕ → List ℕ → Option (List ℕ × List ℕ)
 split_at len bytes =
     if nat_lt (length bytes) len then None else Some (take len bytes, drop len bytes)

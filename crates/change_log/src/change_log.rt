@@ -136,8 +136,8 @@ pub trait ChangeLog {
         ensures same_phase { (state self.new).is_begun ≡ (state self.old).is_begun }
         ensures still_sound { sound self.new };
 
-    /// Puts the snapshot that was written in the place of all that the log holds. The next change
-    /// gets the number `first`.
+    /// Replaces all that the log holds by the snapshot that was written. The next change gets the
+    /// number `first`.
     ///
     /// # Errors
     /// `NoMemory`, and nothing was done; `NotWritten`, and the snapshot is given up; or

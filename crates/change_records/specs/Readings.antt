@@ -41,7 +41,7 @@ abbrev pub field_at : List ℕ → Option (Field × List ℕ)
 field_at [] = None
 field_at (number ∷ bytes) = option_and_then (λ known. valued known bytes) (read_field_at number)
 
--- so many fields, if they are all that the bytes have
+-- this number of fields, if they are all that the bytes have
 abbrev pub fields_of : ℕ → List ℕ → Option (List Field)
 fields_of zero [] = Some []
 fields_of zero (byte ∷ bytes) = None

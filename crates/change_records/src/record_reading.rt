@@ -134,7 +134,7 @@ fn push_field<'a>(
     Ok(rest)
 }
 
-// Adds so many fields, which are all that the bytes have.
+// Adds `count` fields, which are all that the bytes have.
 #[tactic(auto, using(crate::proofs::AddedFields::fields_step))]
 fn read_fields(
     alloc: Global,
