@@ -1,0 +1,3 @@
+pub mod ReadBack
+pub mod States
+pub mod Texts
