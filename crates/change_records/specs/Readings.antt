@@ -1,5 +1,5 @@
--- A record read from left to right. That this reading is that of the form, and its only one, is a
--- law (`records_have_one_form`).
+-- A record read from left to right. By the law `records_have_one_form` this reads exactly the
+-- records of the form.
 use Rattle.std.specs.Prelude.{ℕ, zero, suc, ◌==◌, if◌then◌else◌, false, List, [], ◌∷◌, codes}
 use Rattle.std.specs.Prelude.{chars}
 use Rattle.std.specs.Prelude.{Option, None, Some, option_map}
@@ -49,7 +49,7 @@ fields_of (suc count) bytes =
     option_and_then (λ first. option_map (λ others. first.0 ∷ others) (fields_of count first.1))
     (field_at bytes)
 
--- a count of fields, and so many
+-- the fields, after a byte with their number
 abbrev pub counted_fields : List ℕ → Option (List Field)
 counted_fields [] = None
 counted_fields (count ∷ bytes) = fields_of count bytes

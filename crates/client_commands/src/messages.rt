@@ -108,7 +108,7 @@ fn apply_message(alloc: Global, fault: &ApplyFault) -> Result<String, AllocError
 /// The message for the stream of errors, on one line.
 ///
 /// # Errors
-/// `NoMemory` when out of memory.
+/// `AllocError` when out of memory.
 pub fn words_of(alloc: Global, fault: &FollowerFault) -> Result<String, AllocError>
     ensures ok { IfOk result (λ words. string_bytes words ≡ fault_message fault.now) }
 {

@@ -4,19 +4,18 @@ ghost use Rattle.client_commands.specs.OutputLines.{line_of_status, put_line, ro
 ghost use Rattle.patch_apply.specs.Views.{replica_view};
 
 use patch_apply::Replica;
-use std::alloc::Global;
+use std::alloc::{AllocError, Global};
 use xcap_client::Response;
-use xcap_io::NoMemory;
 
 // The status alone.
-pub(crate) fn status_line(alloc: Global, status: u16) -> Result<String, NoMemory>
+pub(crate) fn status_line(alloc: Global, status: u16) -> Result<String, AllocError>
     ensures ok { IfOk result (λ line. string_bytes line ≡ line_of_status status) }
 {
     format!(in alloc; "{status}\n")
 }
 
 // The status, and the etag in quotes where there is one.
-pub(crate) fn put_line(alloc: Global, response: &Response) -> Result<String, NoMemory>
+pub(crate) fn put_line(alloc: Global, response: &Response) -> Result<String, AllocError>
     ensures ok { IfOk result
         (λ line. string_bytes line ≡ put_line response.now.status response.now.tag) }
 {
@@ -28,7 +27,7 @@ pub(crate) fn put_line(alloc: Global, response: &Response) -> Result<String, NoM
 }
 
 // The replica's etag, or a dash.
-pub(crate) fn tag_line(alloc: Global, replica: &Replica) -> Result<String, NoMemory>
+pub(crate) fn tag_line(alloc: Global, replica: &Replica) -> Result<String, AllocError>
     ensures exact { IfOk result
         (λ line. string_bytes line ≡ round_line (replica_view replica.now.held)) }
 {

@@ -4,12 +4,11 @@ ghost use Rattle.doc_names.specs.PercentEscapes.{escape_part};
 ghost use Rattle.client_follower.specs.FeedPaths.{feed_path};
 
 use doc_names::{DocId, print_doc_id, push_escaped_part};
-use std::alloc::Global;
-use xcap_io::NoMemory;
+use std::alloc::{AllocError, Global};
 use xml_names::Text;
 
 // An etag as a part of an address.
-fn escape_tag(alloc: Global, tag: &Text) -> Result<Text, NoMemory>
+fn escape_tag(alloc: Global, tag: &Text) -> Result<Text, AllocError>
     ensures ok { IfOk result (λ part. part ≡ escape_part tag.now) }
 {
     let mut part = String::new(alloc);
@@ -18,7 +17,7 @@ fn escape_tag(alloc: Global, tag: &Text) -> Result<Text, NoMemory>
 }
 
 // The path of the feed of all changes of a document since one of its versions.
-pub(crate) fn feed_path(alloc: Global, tag: &Text, doc: &DocId) -> Result<Text, NoMemory>
+pub(crate) fn feed_path(alloc: Global, tag: &Text, doc: &DocId) -> Result<Text, AllocError>
     ensures ok { IfOk result (λ path. path ≡ feed_path tag.now doc.now) }
 {
     let part = escape_tag(alloc, tag)?;

@@ -5,10 +5,10 @@ ghost use Rattle.client_follower.specs.FollowerFaults.{fault_of_apply, fault_of_
 ghost use Rattle.client_follower.specs.FollowerFaults.{fault_of_text};
 
 use patch_apply::{ApplyFault, NoticeFault};
+use std::alloc::AllocError;
 use thiserror::Error;
 use tree_text::TextFault;
 use xcap_client::ClientFault;
-use xcap_io::NoMemory;
 use xml_names::ReadError;
 
 /// Why a follower learned nothing. It is then as it was.
@@ -34,10 +34,10 @@ pub enum FollowerFault {
     NoMemory,
 }
 
-impl From<NoMemory> for FollowerFault {
+impl From<AllocError> for FollowerFault {
     ghost from_gives = { λ _ fault. fault ≡ faults.NoMemory };
 
-    fn from(_error: NoMemory) -> Self {
+    fn from(_error: AllocError) -> Self {
         FollowerFault::NoMemory
     }
 }

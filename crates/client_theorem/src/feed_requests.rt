@@ -4,10 +4,9 @@ ghost use Rattle.doc_names.specs.DocIds.{IsDocumentSegment};
 ghost use Rattle.client_theorem.specs.FeedRequests.{HasFeed, feed_address, feed_request, mode_text};
 ghost use Rattle.client_theorem.specs.FeedRequests.{user_field, user_fields};
 
-use crate::NoMemory;
 use doc_names::{DocId, Home, print_doc_id};
 use http_wire::{Field, Request};
-use std::alloc::Global;
+use std::alloc::{AllocError, Global};
 use xcap_io::Bytes;
 use xcap_uri::{Mode, Root, roots_are_spelled_by_the_grammar};
 use xml_names::{List, Text};
@@ -51,7 +50,7 @@ fn feed_address(
     mode: Mode,
     tag: &Text,
     doc: &DocId,
-) -> Result<Bytes, NoMemory>
+) -> Result<Bytes, AllocError>
     ensures ok { IfOk result (λ address. address ≡ feed_address root.now mode tag.now doc.now) }
 {
     roots_are_spelled_by_the_grammar();
@@ -67,7 +66,7 @@ fn feed_address(
 }
 
 // The field that names a user.
-fn user_field(alloc: Global, xui: &Text) -> Result<Field, NoMemory>
+fn user_field(alloc: Global, xui: &Text) -> Result<Field, AllocError>
     ensures ok { IfOk result (λ field. field ≡ user_field xui.now) }
 {
     let name = Text::from(alloc, "X-XCAP-User")?;
@@ -76,7 +75,7 @@ fn user_field(alloc: Global, xui: &Text) -> Result<Field, NoMemory>
 }
 
 // The fields that name the user of a home; none for the global home.
-fn user_fields(alloc: Global, home: &Home) -> Result<List<Field>, NoMemory>
+fn user_fields(alloc: Global, home: &Home) -> Result<List<Field>, AllocError>
     ensures ok { IfOk result (λ fields. fields ≡ user_fields home.now) }
 {
     let mut fields = List::empty(alloc);
@@ -94,14 +93,14 @@ fn user_fields(alloc: Global, home: &Home) -> Result<List<Field>, NoMemory>
 /// in this mode: a GET of its feed under the root.
 ///
 /// # Errors
-/// `NoMemory` when out of memory.
+/// `AllocError` when out of memory.
 pub fn feed_request(
     alloc: Global,
     root: &Root,
     mode: Mode,
     tag: &Text,
     doc: &DocId,
-) -> Result<Request, NoMemory>
+) -> Result<Request, AllocError>
     ensures ok { IfOk result (λ request. request ≡ feed_request root.now mode tag.now doc.now) }
 {
     let target = feed_address(alloc, root, mode, tag, doc)?;

@@ -20,4 +20,3 @@ pub use feed_requests::{feed_request, has_feed};
 pub use follow_fault::FollowFault;
 pub use laws::requests_ask_for_feeds;
 pub use replica_updates::{is_within_levels, update_replica};
-pub use std::alloc::AllocError as NoMemory;

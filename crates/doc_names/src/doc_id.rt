@@ -35,7 +35,7 @@ impl Home {
     /// An equal home.
     ///
     /// # Errors
-    /// `NoMemory` when out of memory.
+    /// `AllocError` when out of memory.
     pub fn copy(&self, alloc: Global) -> Result<Home, AllocError>
         ensures equal_copy { IfOk result (λ made. made ≡ self.now) }
     {
@@ -53,7 +53,7 @@ impl DocId {
     /// An equal name.
     ///
     /// # Errors
-    /// `NoMemory` when out of memory.
+    /// `AllocError` when out of memory.
     pub fn copy(&self, alloc: Global) -> Result<DocId, AllocError>
         ensures equal_copy { IfOk result (λ made. made ≡ self.now) }
     {

@@ -37,7 +37,7 @@ const INVISIBLE: AsciiSet = ascii_set!(CONTROLS.add(b' '));
 /// Appends a text as a part of a printed address.
 ///
 /// # Errors
-/// `NoMemory` when out of memory.
+/// `AllocError` when out of memory.
 pub fn push_escaped_part(line: &mut String, text: &Text) -> Result<(), AllocError>
     ensures appended { OnOk result
         (string_bytes line.new ≡ string_bytes line.old ++ escape_part text.now) }
@@ -49,7 +49,7 @@ pub fn push_escaped_part(line: &mut String, text: &Text) -> Result<(), AllocErro
 /// Appends octets, each escaped unless it is visible.
 ///
 /// # Errors
-/// `NoMemory` when out of memory.
+/// `AllocError` when out of memory.
 pub fn push_escaped_octets(line: &mut String, octets: &[u8]) -> Result<(), AllocError>
     ensures appended { OnOk result
         (string_bytes line.new ≡ string_bytes line.old ++ escape_octets is_visible octets.now) }

@@ -35,7 +35,7 @@ fn push_home(line: &mut String, home: &Home) -> Result<(), AllocError>
 /// The printed id of a document; every octet of it is ASCII.
 ///
 /// # Errors
-/// `NoMemory` when out of memory.
+/// `AllocError` when out of memory.
 pub fn print_doc_id(alloc: Global, doc: &DocId) -> Result<Text, AllocError>
     ensures ok { IfOk result (λ text. text ≡ id_text doc.now) }
 {

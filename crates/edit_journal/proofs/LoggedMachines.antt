@@ -1,8 +1,8 @@
 -- A machine with its log and its journal, as one machine.
-use Rattle.std.proofs.Common.{◌≡◌, ℕ, suc, ◌+◌, Result, Ok, Err, Option, IfOk, OnErr, ap, arith}
+use Rattle.std.proofs.Common.{◌≡◌, ℕ, suc, ◌+◌, Result, Ok, Err, Option, None, Some, IfOk, IfSome, OnErr, inl, refl, ap, arith}
 use Rattle.reply_text.specs.ReplyHeads.{SentReply}
 use Rattle.http_wire.specs.declared.request.Request.{Request}
-use Rattle.edit_journal.specs.Journals.{IsJournalProgress}
+use Rattle.edit_journal.specs.Journals.{IsJournalProgress, JournalState}
 use Rattle.edit_journal.specs.JournalLogs.{LogFitsJournal, LogState}
 use Rattle.edit_journal.proofs.Lengths.{record_length}
 use Rattle.http_serve.specs.declared.machine.MachineReply.{MachineReply}
@@ -42,3 +42,31 @@ module _ {M E : Type 0} (Step : M → Request → SentReply → M → Option E �
     same_journal = journal;
   }
   step_after (Err e) answers goes fits machine log journal = tt
+
+-- a reply that the machine lends is a step that changes nothing
+module _ {M E : Type 0} (Step : M → Request → SentReply → M → Option E → Type 0) (state : JournaledMachineState M) (request : Request) (fits : LogFitsJournal state.log state.journal) where
+  goes_nowhere : (journal : JournalState) → IsJournalProgress journal journal
+  goes_nowhere journal = record {
+    later = omega arith;
+    later_beneath = omega arith;
+    cause = λ none. inl none;
+    same_before = refl;
+    same_holds = refl;
+    same_aside = refl;
+  }
+
+  lent_one : (lent : Option SentReply) → IfSome lent (λ reply. Step state.machine request reply state.machine None) → IfSome lent (λ reply. JournaledMachineStep Step state request reply state None)
+  lent_one None steps = tt
+  lent_one (Some reply) step = record {
+    answers = stays refl step refl refl refl;
+    goes = goes_nowhere state.journal;
+    fits = fits;
+    same_machine = refl;
+    same_log = refl;
+    same_journal = refl;
+  }
+
+  pub lent_step : {R : Type 0} (r : Result (Option SentReply) R) → IfOk r (λ lent. IfSome lent (λ reply. Step state.machine request reply state.machine None))
+      → IfOk r (λ lent. IfSome lent (λ reply. JournaledMachineStep Step state request reply state None))
+  lent_step (Ok lent) steps = lent_one lent steps
+  lent_step (Err e) steps = tt

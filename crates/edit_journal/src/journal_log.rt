@@ -11,10 +11,10 @@ ghost use Rattle.edit_journal.specs.JournalLogs.{LogFitsJournal, HoldsRecords, A
 ghost use Rattle.edit_journal.specs.JournalLogs.{with_request};
 ghost use Rattle.edit_journal.specs.inner.AppendSteps.{RepairsLog, AppendsToLog, FailsToAppend};
 
+use crate::Journal;
 use crate::records::record_of;
-use crate::{Journal, NoMemory};
 use http_wire::Request;
-use std::alloc::Global;
+use std::alloc::{AllocError, Global};
 use std::marker::Model;
 use xcap_io::Failed;
 
@@ -54,12 +54,12 @@ impl From<Failed> for AppendFault {
     }
 }
 
-impl From<NoMemory> for AppendFault {
+impl From<AllocError> for AppendFault {
     ghost use Rattle.edit_journal.specs.declared.journal_log.AppendFault.{AppendFault};
 
     ghost from_gives = { λ _ fault. fault ≡ AppendFault.NoMemory };
 
-    fn from(_none: NoMemory) -> AppendFault {
+    fn from(_none: AllocError) -> AppendFault {
         AppendFault::NoMemory
     }
 }

@@ -8,9 +8,9 @@ ghost use Rattle.edit_journal.specs.Restarts.{RestartsReplayer};
 ghost use Rattle.edit_journal.specs.inner.ReplaySteps.{ReplaysBufferedRecords};
 
 use crate::read_buffer::{FillResult, ReadBuffer};
-use crate::{AppendFault, Journal, JournalLog, NoMemory, ReplayStep, Replayer};
+use crate::{AppendFault, Journal, JournalLog, ReplayStep, Replayer};
 use http_wire::Request;
-use std::alloc::Global;
+use std::alloc::{AllocError, Global};
 use xcap_io::{Failed, Line, Source};
 
 /// Why a restart ended before the old journal was read to its end.
@@ -31,12 +31,12 @@ pub enum RestartFault {
     NoMemory,
 }
 
-impl From<NoMemory> for RestartFault {
+impl From<AllocError> for RestartFault {
     ghost use Rattle.edit_journal.specs.declared.journal_restart.RestartFault.{RestartFault};
 
     ghost from_gives = { λ _ fault. fault ≡ RestartFault.NoMemory };
 
-    fn from(_none: NoMemory) -> RestartFault {
+    fn from(_none: AllocError) -> RestartFault {
         RestartFault::NoMemory
     }
 }

@@ -1,7 +1,7 @@
 //! A machine with its log and its journal, as one machine that serves connections.
 use crate::{Journal, JournalLog, LoggedMachine};
 use http_serve::{Machine, MachineReply};
-use http_wire::Request;
+use http_wire::{LentReply, Request};
 use std::alloc::AllocError;
 
 /// A machine, its log, and the journal of that log.
@@ -49,6 +49,13 @@ impl<'a, M: LoggedMachine, J: Journal> Machine for MachineWithJournal<'a, M, J> 
           journal_name = logged.journal.ghost_name;
         })
         n };
+
+    fn answer_reading<'b>(
+        &'b self,
+        request: &Request,
+    ) -> Result<Option<LentReply<'b>>, AllocError> {
+        self.machine.answer_reading(request)
+    }
 
     fn answer(&mut self, request: &Request) -> Result<MachineReply<M::Edit>, AllocError> {
         self.machine.answer_logged(self.log, self.journal, request)

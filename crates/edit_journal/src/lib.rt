@@ -43,4 +43,3 @@ pub use recovery_laws::{
 };
 pub use replayer::{ReplayStep, Replayer};
 pub use stream_journal::StreamJournal;
-pub use xcap_io::NoMemory;

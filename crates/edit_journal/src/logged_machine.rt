@@ -1,5 +1,5 @@
 //! Machines that record accepted requests in a log.
-ghost use Rattle.std.specs.Prelude.{◌≡◌, ◌≤◌, ◌-◌, Option, IfOk, OnErr};
+ghost use Rattle.std.specs.Prelude.{◌≡◌, ◌≤◌, ◌-◌, Option, None, IfOk, IfSome, OnErr};
 ghost use Rattle.reply_text.specs.ReplyHeads.{SentReply};
 ghost use Rattle.http_wire.specs.declared.request.Request.{Request as TheRequest};
 ghost use Rattle.xml_names.specs.Limits.{u64_max};
@@ -10,7 +10,7 @@ ghost use Rattle.edit_journal.specs.LoggedRequests.{AnswersWithJournal, IsLoggab
 
 use crate::{Journal, JournalLog};
 use http_serve::MachineReply;
-use http_wire::Request;
+use http_wire::{LentReply, Request};
 use std::alloc::AllocError;
 
 /// An object that answers requests, one after the other, and records each accepted one in a log
@@ -22,12 +22,24 @@ pub trait LoggedMachine {
     /// Relates a state, a request, the reply, the state after it, and the edit.
     ghost steps: { Self → TheRequest → SentReply → Self → Option Self.Edit → Type 0 };
 
+    /// The reply to a request, its body lent by the machine, which is unchanged: None where the
+    /// request is to be answered by `answer_logged`. The reply closes the connection exactly where
+    /// the request does.
+    ///
+    /// # Errors
+    /// `AllocError` when out of memory.
+    fn answer_reading<'a>(&'a self, request: &Request) -> Result<Option<LentReply<'a>>, AllocError>
+        ensures makes_step { IfOk result (λ lent. IfSome lent
+            (λ reply. steps self.now request.now reply self.now None)) }
+        ensures closes_as_asked { IfOk result (λ lent. IfSome lent
+            (λ reply. reply.closes ≡ request.now.closes)) };
+
     /// Answers a request. If the request makes a change, its record is added to the journal first;
     /// where that fails, the reply is the 500, and nothing is changed. The reply closes the
     /// connection exactly where the request does.
     ///
     /// # Errors
-    /// `NoMemory` when out of memory; then nothing has changed.
+    /// `AllocError` when out of memory; then nothing has changed.
     fn answer_logged<J: Journal>(
         &mut self,
         log: &mut JournalLog,

@@ -8,9 +8,9 @@ ghost use Rattle.edit_journal.specs.MemoryJournals.{IsFailingCall, AppendsInMemo
 ghost use Rattle.edit_journal.specs.MemoryJournals.{TruncatesInMemory, memory_journal_state};
 
 use crate::Journal;
-use std::alloc::Global;
+use std::alloc::{AllocError, Global};
 use std::marker::Model;
-use xcap_io::{Failed, NoMemory, count_fault};
+use xcap_io::{Failed, count_fault};
 
 /// A journal in memory. It takes bytes until its capacity is used up, and fails at the calls that
 /// it was set to fail.
@@ -48,7 +48,7 @@ impl MemJournal {
         bytes: &[u8],
         room: usize,
         fails: &[u64],
-    ) -> Result<MemJournal, NoMemory>
+    ) -> Result<MemJournal, AllocError>
         requires { length bytes.now ≤ room }
         ensures holds_bytes { IfOk result (λ journal. journal ≡ record {
           held = bytes.now;

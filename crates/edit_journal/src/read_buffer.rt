@@ -7,9 +7,9 @@ use crate::journal_restart::RestartFault;
 use crate::limits::{MAX_JOURNAL_BYTES, MAX_RECORD_BYTES};
 use crate::record_scan::{RecordScan, scan_record};
 use http_wire::Request;
-use std::alloc::Global;
+use std::alloc::{AllocError, Global};
 use std::marker::Model;
-use xcap_io::{Failed, Line, NoMemory, Source};
+use xcap_io::{Failed, Line, Source};
 
 /// The result of reading more bytes.
 #[derive(Clone, Copy, PartialEq, Eq)]
@@ -74,7 +74,7 @@ fn has_ended<S: Source>(source: &mut S) -> Result<bool, Failed>
 
 impl ReadBuffer {
     /// An empty buffer.
-    pub(crate) fn new(alloc: Global) -> Result<ReadBuffer, NoMemory>
+    pub(crate) fn new(alloc: Global) -> Result<ReadBuffer, AllocError>
         ensures holds_no_bytes { IfOk result
             (λ read_buffer. read_buffer ≡ record { held = []; taken = 0 }) }
     {

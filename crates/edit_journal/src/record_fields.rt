@@ -9,16 +9,16 @@ ghost use Rattle.edit_journal.specs.inner.RecordParts.{HasRoomForFields};
 use crate::field_parsers::{FieldError, bytes_after, read_block, read_token};
 use crate::limits::MAX_CONTENT_BYTES;
 use http_wire::{Field, MAX_BODY_BYTES, token_text};
-use std::alloc::Global;
-use xcap_io::{Bytes, NoMemory};
+use std::alloc::{AllocError, Global};
+use xcap_io::Bytes;
 use xml_names::List;
 
-impl From<NoMemory> for FieldError {
+impl From<AllocError> for FieldError {
     ghost use Rattle.edit_journal.specs.declared.field_parsers.FieldError.{FieldError};
 
     ghost from_gives = { λ _ stop. stop ≡ FieldError.NoMemory };
 
-    fn from(_none: NoMemory) -> FieldError {
+    fn from(_none: AllocError) -> FieldError {
         FieldError::NoMemory
     }
 }
@@ -45,7 +45,7 @@ fn read_value(bytes: &[u8], others: usize, left: usize) -> Result<&[u8], FieldEr
     read_block(bytes, min_value_len(others, left), left - 8 - 9 * others)
 }
 
-fn new_field(alloc: Global, name: &[u8], value: &[u8]) -> Result<Field, NoMemory>
+fn new_field(alloc: Global, name: &[u8], value: &[u8]) -> Result<Field, AllocError>
     ensures ok { IfOk result (λ field. field ≡ record { name = name.now; value = value.now }) }
 {
     Ok(Field {

@@ -7,8 +7,8 @@ ghost use Rattle.edit_journal.specs.Records.{record_of, IsRecordable};
 ghost use Rattle.edit_journal.specs.inner.WritableFields.{IsWritableField};
 
 use http_wire::{Field, Request};
-use std::alloc::Global;
-use xcap_io::{Bytes, NoMemory};
+use std::alloc::{AllocError, Global};
+use xcap_io::Bytes;
 use xml_names::Text;
 
 // The number of a recorded method, and 0 for any other.
@@ -27,7 +27,7 @@ fn method_number(method: &Text) -> u8
 
 // Appends a length and that many bytes.
 #[tactic(auto, unfolding(crate::specs::Records::length_prefixed))]
-fn append_block(made: &mut Bytes, bytes: &[u8]) -> Result<(), NoMemory>
+fn append_block(made: &mut Bytes, bytes: &[u8]) -> Result<(), AllocError>
     requires { length bytes.now < 2 ^ 32 }
     ensures appended { OnOk result (made.new ≡ made.old ++ length_prefixed bytes.now) }
 {
@@ -35,7 +35,7 @@ fn append_block(made: &mut Bytes, bytes: &[u8]) -> Result<(), NoMemory>
     made.extend(bytes)
 }
 
-fn append_field(made: &mut Bytes, field: &Field) -> Result<(), NoMemory>
+fn append_field(made: &mut Bytes, field: &Field) -> Result<(), AllocError>
     requires { IsWritableField field.now }
     ensures appended { OnOk result (made.new ≡ made.old ++ field_text field.now) }
 {
@@ -43,7 +43,7 @@ fn append_field(made: &mut Bytes, field: &Field) -> Result<(), NoMemory>
     append_block(made, field.value.as_slice())
 }
 
-fn append_fields(made: &mut Bytes, fields: &[Field]) -> Result<(), NoMemory>
+fn append_fields(made: &mut Bytes, fields: &[Field]) -> Result<(), AllocError>
     requires { All IsWritableField fields.now }
     ensures appended { OnOk result (made.new ≡ made.old ++ flat_map field_text fields.now) }
 {
@@ -53,7 +53,7 @@ fn append_fields(made: &mut Bytes, fields: &[Field]) -> Result<(), NoMemory>
     Ok(())
 }
 
-fn encode_content(alloc: Global, request: &Request) -> Result<Bytes, NoMemory>
+fn encode_content(alloc: Global, request: &Request) -> Result<Bytes, AllocError>
     requires { IsRecordable request.now }
     ensures ok { IfOk result (λ bytes. bytes ≡ record_content request.now) }
 {
@@ -68,7 +68,7 @@ fn encode_content(alloc: Global, request: &Request) -> Result<Bytes, NoMemory>
 }
 
 /// The record of a request that has one.
-pub(crate) fn record_of(alloc: Global, request: &Request) -> Result<Bytes, NoMemory>
+pub(crate) fn record_of(alloc: Global, request: &Request) -> Result<Bytes, AllocError>
     requires { IsRecordable request.now }
     ensures ok { IfOk result (λ bytes. bytes ≡ record_of request.now) }
 {

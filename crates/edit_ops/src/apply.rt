@@ -13,7 +13,7 @@ use xml_tree::Element;
 /// where `moved` says.
 ///
 /// # Errors
-/// `NoMemory` when out of memory; the tree is then unchanged. It never comes where an attribute is
+/// `AllocError` when out of memory; the tree is then unchanged. It never comes where an attribute is
 /// dropped, and where an element is removed only if texts are directly on both sides of it.
 pub fn apply_change(alloc: Global, root: &mut Element, change: &Change) -> Result<(), AllocError>
     requires { FitsTree root.old change.now }

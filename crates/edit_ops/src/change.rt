@@ -48,7 +48,7 @@ impl Change {
     /// An equal change.
     ///
     /// # Errors
-    /// `NoMemory` when out of memory.
+    /// `AllocError` when out of memory.
     pub fn copy(&self, alloc: Global) -> Result<Change, AllocError>
         ensures equal_copy { IfOk result (λ made. made ≡ self.now) }
     {

@@ -8,10 +8,10 @@ ghost use Rattle.edit_ops.specs.DiffOperations.{weight};
 ghost use Rattle.edit_ops.specs.RecordParts.{IsDocumentChange, made_note};
 ghost use Rattle.edit_ops.specs.inner.WeighedRecords.{IsWeighed, note_in};
 
+use crate::Change;
 use crate::record_bindings::{bindings_of_place, is_fresh};
 use crate::record_weight::weight;
-use crate::{Change, NoMemory};
-use std::alloc::Global;
+use std::alloc::{AllocError, Global};
 use std::marker::Model;
 use std::rc::Rc;
 use xml_names::{Decl, List};
@@ -57,7 +57,7 @@ impl EditNote {
     /// the record's weight is computed.
     ///
     /// # Errors
-    /// `NoMemory` when out of memory.
+    /// `AllocError` when out of memory.
     pub fn of(
         alloc: Global,
         previous: u64,
@@ -65,7 +65,7 @@ impl EditNote {
         root: &Element,
         change: Change,
         put: usize,
-    ) -> Result<EditNote, NoMemory>
+    ) -> Result<EditNote, AllocError>
         requires fits { FitsTree root.now change }
         requires length_of_part { put ≡ min (element_len change) usize.MAX }
         ensures ok { IfOk result (λ made. made ≡ note_of previous next root.now change) }
@@ -87,14 +87,14 @@ impl EditNote {
     /// counted.
     ///
     /// # Errors
-    /// `NoMemory` when out of memory.
+    /// `AllocError` when out of memory.
     #[tactic(auto, using(crate::proofs::Operations::weightless))]
     pub fn of_document(
         alloc: Global,
         previous: u64,
         next: u64,
         change: Change,
-    ) -> Result<EditNote, NoMemory>
+    ) -> Result<EditNote, AllocError>
         requires { IsDocumentChange change }
         ensures any_tree { IfOk result
             (λ made. (t : Tree) → made ≡ note_of previous next t change) }
@@ -113,7 +113,7 @@ impl EditNote {
     /// A record by its parts, whatever tree they are of; `put` is `element_len` of the change.
     ///
     /// # Errors
-    /// `NoMemory` when out of memory.
+    /// `AllocError` when out of memory.
     pub fn from_parts(
         alloc: Global,
         previous: u64,
@@ -122,7 +122,7 @@ impl EditNote {
         change: Change,
         fresh: bool,
         put: usize,
-    ) -> Result<EditNote, NoMemory>
+    ) -> Result<EditNote, AllocError>
         requires length_of_part { put ≡ min (element_len change) usize.MAX }
         ensures ok { IfOk result (λ made. made ≡ made_note previous next bindings change fresh) }
     {
@@ -139,7 +139,7 @@ impl EditNote {
     }
 
     // A record with its weight.
-    fn new_weighed(alloc: Global, note: KeptNote) -> Result<EditNote, NoMemory>
+    fn new_weighed(alloc: Global, note: KeptNote) -> Result<EditNote, AllocError>
         requires weighed { IsWeighed note }
         ensures ok { IfOk result (λ made. made ≡ note_in note) }
     {
@@ -150,8 +150,8 @@ impl EditNote {
     /// The record, shared.
     ///
     /// # Errors
-    /// `NoMemory` where it is shared too often.
-    pub fn copy(&self) -> Result<EditNote, NoMemory>
+    /// `AllocError` where it is shared too often.
+    pub fn copy(&self) -> Result<EditNote, AllocError>
         ensures equal_copy { IfOk result (λ made. made ≡ self.now) }
     {
         let kept = self.kept.clone()?;

@@ -35,4 +35,3 @@ pub use printed_lengths::{element_len, printed_len_after};
 pub use rebuild_tree::{rebuilt, without_children};
 pub use recorded_tree::RecordedTree;
 pub use staged_change::{Staged, apply_staged, stage};
-pub use std::alloc::AllocError as NoMemory;

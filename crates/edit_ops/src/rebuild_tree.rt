@@ -139,22 +139,22 @@ fn copy_nodes_around(
     alloc: Global,
     before: &[Node],
     element: Element,
-    behind: &[Node],
+    after: &[Node],
 ) -> Result<Vec<Node>, AllocError>
-    ensures ok { IfOk result (λ made. made.items ≡ before.now ++ node.Elem element ∷ behind.now) }
+    ensures ok { IfOk result (λ made. made.items ≡ before.now ++ node.Elem element ∷ after.now) }
 {
     let mut made = copy_nodes(alloc, before)?;
     made.push(Node::Elem(element))?;
-    push_nodes(alloc, &mut made, behind)?;
+    push_nodes(alloc, &mut made, after)?;
     Ok(made)
 }
 
 // Copies of nodes, and of further nodes.
-fn join_nodes(alloc: Global, before: &[Node], behind: &[Node]) -> Result<Vec<Node>, AllocError>
-    ensures ok { IfOk result (λ made. made.items ≡ before.now ++ behind.now) }
+fn join_nodes(alloc: Global, before: &[Node], after: &[Node]) -> Result<Vec<Node>, AllocError>
+    ensures ok { IfOk result (λ made. made.items ≡ before.now ++ after.now) }
 {
     let mut made = copy_nodes(alloc, before)?;
-    push_nodes(alloc, &mut made, behind)?;
+    push_nodes(alloc, &mut made, after)?;
     Ok(made)
 }
 
@@ -182,9 +182,9 @@ fn with_element(
     ensures ok { IfOk result (λ made. made ≡ put_kid gap put.now element.now) }
 {
     let nodes = element.nodes();
-    let (before, behind) = nodes.split_at(place_of_insertion(nodes, gap));
+    let (before, after) = nodes.split_at(place_of_insertion(nodes, gap));
     let put = copy_tree(alloc, put)?;
-    let nodes = copy_nodes_around(alloc, before, put, behind)?;
+    let nodes = copy_nodes_around(alloc, before, put, after)?;
     with_nodes(alloc, element, nodes)
 }
 
@@ -293,7 +293,7 @@ fn rebuild_below(
 /// The tree after a change, as a new one. The change fits the tree, as for `apply_change`.
 ///
 /// # Errors
-/// `NoMemory` when out of memory.
+/// `AllocError` when out of memory.
 pub fn rebuilt(alloc: Global, root: &Element, change: &Change) -> Result<Element, AllocError>
     requires { FitsTree root.now change.now }
     ensures makes_change { IfOk result (λ made. made ≡ edited root.now change.now) }
@@ -304,7 +304,7 @@ pub fn rebuilt(alloc: Global, root: &Element, change: &Change) -> Result<Element
 /// An element with another's name, declarations and attributes, and without content.
 ///
 /// # Errors
-/// `NoMemory` when out of memory.
+/// `AllocError` when out of memory.
 pub fn without_children(alloc: Global, element: &Element) -> Result<Element, AllocError>
     ensures ok { IfOk result
         (λ tag. tag ≡ tree_of element.now.name element.now.decls element.now.attrs (last [])) }

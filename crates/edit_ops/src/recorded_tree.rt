@@ -2,8 +2,9 @@
 ghost use Rattle.std.specs.Prelude.{◌≡◌, IfErr, IfOk};
 ghost use Rattle.edit_ops.specs.InsertedElements.{InsertsElement, inserted_element};
 
+use crate::Change;
 use crate::edit_note::EditNote;
-use crate::{Change, NoMemory};
+use std::alloc::AllocError;
 use std::marker::Model;
 use xml_tree::Element;
 
@@ -59,8 +60,8 @@ impl RecordedTree {
     /// The element of a record whose change inserts one. Nothing is copied.
     ///
     /// # Errors
-    /// `NoMemory` where the record is shared too often.
-    pub fn of(note: &EditNote) -> Result<RecordedTree, NoMemory>
+    /// `AllocError` where the record is shared too often.
+    pub fn of(note: &EditNote) -> Result<RecordedTree, AllocError>
         requires { InsertsElement note.now.change }
         ensures ok { IfOk result (λ tree. tree ≡ inserted_element note.now.change) }
     {

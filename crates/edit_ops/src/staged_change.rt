@@ -125,7 +125,7 @@ fn stage_here(alloc: Global, here: &Element, change: &Change) -> Result<Staged, 
 /// one more. It costs that and the descent to the place of the change.
 ///
 /// # Errors
-/// `NoMemory` when out of memory. It never comes where an attribute is dropped, and where an
+/// `AllocError` when out of memory. It never comes where an attribute is dropped, and where an
 /// element is removed only if texts are directly on both sides of it.
 pub fn stage(alloc: Global, root: &Element, change: &Change) -> Result<Staged, AllocError>
     requires { FitsTree root.now change.now }

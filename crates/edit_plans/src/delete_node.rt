@@ -19,9 +19,9 @@ use doc_names::Usage;
 use edit_ops::{Change, without_children};
 use edit_rules::EditRefusal;
 use node_select::{End, Selector, find_attr, select};
-use std::alloc::Global;
+use std::alloc::{AllocError, Global};
 use usage_docs::Fault;
-use xml_names::{Name, NoMemory, Text};
+use xml_names::{Name, Text};
 use xml_tree::{Element, Path, Scope, element_at};
 
 // The removal of the element at a path, if it is allowed.
@@ -43,7 +43,7 @@ fn attribute_removal(
 }
 
 // The start tag of an element without an attribute.
-fn tag_without(alloc: Global, element: &Element, name: &Name) -> Result<Element, NoMemory>
+fn tag_without(alloc: Global, element: &Element, name: &Name) -> Result<Element, AllocError>
     ensures ok { IfOk result
         (λ tag. tag ≡ start_tag_with (without_attr name.now element.now.attrs) element.now) }
 {
@@ -91,7 +91,7 @@ fn plan_drop<'a>(
     path: Path,
     uri: &'a Text,
     local: &'a Text,
-) -> Result<Result<Change, EditRefusal>, NoMemory>
+) -> Result<Result<Change, EditRefusal>, AllocError>
     requires height_bounded { height root.now ≤ MAX_LEVELS }
     requires selector_end { selector.now.end ≡ ends.Attribute uri.now local.now }
     requires selected { SelectsPath selector.now.steps root.now path }
@@ -125,13 +125,13 @@ fn plan_drop<'a>(
 /// selector would still find something; then `Faulty` with the first fault of the new document.
 ///
 /// # Errors
-/// `NoMemory` when out of memory.
+/// `AllocError` when out of memory.
 pub fn plan_delete(
     alloc: Global,
     usage: Usage,
     root: &Element,
     selector: &Selector,
-) -> Result<Result<Change, EditRefusal>, NoMemory>
+) -> Result<Result<Change, EditRefusal>, AllocError>
     requires height_bounded { height root.now ≤ MAX_LEVELS }
     requires selects_node { selector.now.end ≡ ends.Namespaces → ⊥ }
     requires faultless { HasFirstFault usage root.now None }

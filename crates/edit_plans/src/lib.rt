@@ -27,4 +27,3 @@ pub use edit_rules::{EditRefusal, NoParent, Spot};
 pub use put_attribute::plan_attr;
 pub use put_element::plan_put;
 pub use spots::put_spot;
-pub use xml_names::NoMemory;

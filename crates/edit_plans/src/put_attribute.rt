@@ -25,8 +25,8 @@ use doc_names::Usage;
 use edit_ops::{Change, without_children};
 use edit_rules::EditRefusal;
 use node_select::{End, Selector, find_attr};
-use std::alloc::Global;
-use xml_names::{Decl, LocalName, Name, NoMemory, Prefix, Text};
+use std::alloc::{AllocError, Global};
+use xml_names::{Decl, LocalName, Name, Prefix, Text};
 use xml_tree::{Element, Path, Scope, element_at};
 
 // Whether it binds the namespace to a prefix that isn't empty.
@@ -37,7 +37,7 @@ fn is_binding(uri: &Text, decl: &Decl) -> bool
 }
 
 // The prefix of the first binding of a namespace.
-fn bound_prefix(alloc: Global, bindings: &[Decl], uri: &Text) -> Result<Option<Prefix>, NoMemory>
+fn bound_prefix(alloc: Global, bindings: &[Decl], uri: &Text) -> Result<Option<Prefix>, AllocError>
     ensures ok { IfOk result
         (λ prefix. prefix ≡ option_map (λ d. d.prefix) (find (is_binding uri.now) bindings.now)) }
 {
@@ -61,7 +61,7 @@ fn is_xml_space(scope: &Scope<'_>, uri: &Text) -> bool
 }
 
 // The prefix of a new attribute in this namespace, if there is one.
-fn new_prefix(alloc: Global, scope: &Scope<'_>, uri: &Text) -> Result<Option<Prefix>, NoMemory>
+fn new_prefix(alloc: Global, scope: &Scope<'_>, uri: &Text) -> Result<Option<Prefix>, AllocError>
     ensures ok { IfOk result (λ prefix. prefix ≡ new_prefix scope.now uri.now) }
 {
     if uri.is("") {
@@ -82,7 +82,7 @@ fn new_name(
     scope: &Scope<'_>,
     uri: &Text,
     local: &Text,
-) -> Result<Option<Name>, NoMemory>
+) -> Result<Option<Name>, AllocError>
     ensures ok { IfOk result (λ name. name ≡ new_name scope.now uri.now local.now) }
 {
     match new_prefix(alloc, scope, uri)? {
@@ -101,7 +101,7 @@ fn written_name(
     element: &Element,
     uri: &Text,
     local: &Text,
-) -> Result<Option<Name>, NoMemory>
+) -> Result<Option<Name>, AllocError>
     ensures ok { IfOk result
         (λ name. name ≡ written_name scope.now uri.now local.now element.now.attrs) }
 {
@@ -137,7 +137,7 @@ fn tag_with_attribute(
     element: &Element,
     name: &Name,
     value: &Text,
-) -> Result<Element, NoMemory>
+) -> Result<Element, AllocError>
     ensures ok { IfOk result
         (λ tag. tag ≡ start_tag_with (with_attr name.now value.now element.now.attrs) element.now) }
 {
@@ -158,7 +158,7 @@ fn plan_value(
     uri: &Text,
     local: &Text,
     value: Text,
-) -> Result<Result<Change, EditRefusal>, NoMemory>
+) -> Result<Result<Change, EditRefusal>, AllocError>
     requires height_bounded { height root.now ≤ MAX_LEVELS }
     requires selector_end { selector.now.end ≡ ends.Attribute uri.now local.now }
     requires selected { SelectsPath selector.now.steps root.now path.now }
@@ -191,7 +191,7 @@ fn plan_value(
 /// document.
 ///
 /// # Errors
-/// `NoMemory` when out of memory.
+/// `AllocError` when out of memory.
 pub fn plan_attr(
     alloc: Global,
     usage: Usage,
@@ -199,7 +199,7 @@ pub fn plan_attr(
     selector: &Selector,
     at: &Path,
     value: Text,
-) -> Result<Result<Change, EditRefusal>, NoMemory>
+) -> Result<Result<Change, EditRefusal>, AllocError>
     requires height_bounded { height root.now ≤ MAX_LEVELS }
     requires valid_spot { IsSpotOf root.now selector.now (Value at.now) }
     requires faultless { HasFirstFault usage root.now None }

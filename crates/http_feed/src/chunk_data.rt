@@ -5,9 +5,8 @@ ghost use Rattle.http_wire.specs.inner.ChunkDecoder.{DecodesBytes};
 ghost use Rattle.http_wire.specs.inner.ChunkDecoder.{next_decoding};
 
 use http_wire::reader_parts::{ChunkState, next_state};
-use std::alloc::Global;
+use std::alloc::{AllocError, Global};
 use std::marker::Model;
-use xcap_io::NoMemory;
 
 // The state before a chunked body.
 const START: ChunkState = ChunkState::Size {
@@ -150,7 +149,7 @@ impl ChunkData {
         used
     }
 
-    fn reserve(&mut self, count: usize) -> Result<(), NoMemory>
+    fn reserve(&mut self, count: usize) -> Result<(), AllocError>
         ensures room { IfOk result (λ _. length self.old.decoding.body + count
             ≤ self.new.capacity) }
         ensures same_decoding { self.new.decoding ≡ self.old.decoding }
@@ -161,7 +160,7 @@ impl ChunkData {
 
     // Reads until the state is settled or all bytes are read, and returns how many it read. It
     // allocates before it reads, so that nothing changes when out of memory.
-    pub fn feed(&mut self, raw: &[u8]) -> Result<usize, NoMemory>
+    pub fn feed(&mut self, raw: &[u8]) -> Result<usize, AllocError>
         ensures at_most_len { IfOk result (λ used. used ≤ length raw.now) }
         ensures reads_on { IfOk result
             (λ used. DecodesBytes self.old.decoding (take used raw.now) self.new.decoding) }

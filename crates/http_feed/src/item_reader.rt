@@ -13,8 +13,7 @@ use http_wire::reader_parts::{
 };
 use http_wire::{Asked, MAX_BODY_BYTES, MAX_FIELD_LINES};
 use httparse::spans::EMPTY_HEADER_SPAN;
-use std::alloc::Global;
-use xcap_io::NoMemory;
+use std::alloc::{AllocError, Global};
 
 // How far the next item was read.
 #[derive(Clone, Copy)]
@@ -63,7 +62,7 @@ fn read_body(
             held.consume(end);
             ReadStep::Item(Asked::Request(request))
         }
-        Err(NoMemory) => ReadStep::Item(Asked::NoMemory),
+        Err(AllocError) => ReadStep::Item(Asked::NoMemory),
     }
 }
 
@@ -92,7 +91,7 @@ fn read_decoded(
             held.consume(head + used);
             ReadStep::Item(Asked::Request(request))
         }
-        Err(NoMemory) => ReadStep::Item(Asked::NoMemory),
+        Err(AllocError) => ReadStep::Item(Asked::NoMemory),
     }
 }
 
@@ -130,7 +129,7 @@ fn read_chunks(
     chunks: &mut ChunkData,
     head: usize,
     before: usize,
-) -> Result<ReadStep, NoMemory>
+) -> Result<ReadStep, AllocError>
     requires inside { head ≤ length held.old.bytes }
     ensures answers { (given : List ℕ) → IsInChunks head held.old.bytes chunks.old.decoding given
         → IfOk result (λ step. AnswersStep before given step held.new.bytes chunks.new.decoding) }
@@ -147,7 +146,7 @@ fn read_head(
     chunks: &mut ChunkData,
     seen: usize,
     before: usize,
-) -> Result<ReadStep, NoMemory>
+) -> Result<ReadStep, AllocError>
     requires inside { seen ≤ length held.old.bytes }
     requires no_head_yet { HasNoHead (take seen held.old.bytes) }
     ensures answers { IfOk result
@@ -179,7 +178,7 @@ pub fn read_on(
     chunks: &mut ChunkData,
     place: ReadPlace,
     before: usize,
-) -> Result<ReadStep, NoMemory>
+) -> Result<ReadStep, AllocError>
     requires placed { IsReachablePlace place held.old.bytes }
     ensures answers { (given : List ℕ) → HoldsBytes place held.old.bytes chunks.old.decoding given
         → MayAnswerStep before given place result held.new.bytes chunks.new.decoding }

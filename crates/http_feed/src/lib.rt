@@ -16,4 +16,3 @@ mod request_feed;
 pub use http_wire::Asked;
 pub use laws::requests_come_in_order;
 pub use request_feed::RequestFeed;
-pub use xcap_io::NoMemory;

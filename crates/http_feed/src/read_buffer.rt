@@ -4,9 +4,8 @@ ghost use Rattle.std.specs.Prelude.{vec_len, vec_capacity, IfOk, OnErr, IsTrue};
 ghost use Rattle.http_feed.specs.inner.Buffers.{no_bytes};
 
 use http_wire::reader_parts::MAX_HELD_BYTES;
-use std::alloc::Global;
+use std::alloc::{AllocError, Global};
 use std::marker::Model;
-use xcap_io::NoMemory;
 
 // The bytes given and not used yet: the end of a buffer that grows by need.
 #[derive(Drop)]
@@ -96,7 +95,7 @@ impl ReadBuffer {
     // Allocates for `wanted` more bytes, or as many as the limit allows, and returns how many. The
     // bytes held are moved to the front: once for each item, if room is made only where none is
     // complete.
-    pub fn reserve(&mut self, wanted: usize) -> Result<usize, NoMemory>
+    pub fn reserve(&mut self, wanted: usize) -> Result<usize, AllocError>
         ensures up_to_limit { IfOk result
             (λ count. count ≡ min wanted (MAX_HELD_BYTES - length self.old.bytes)) }
         ensures room { IfOk result (λ count. self.new.room ≡ count) }

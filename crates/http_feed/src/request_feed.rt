@@ -11,9 +11,9 @@ use crate::item_reader::{ReadPlace, ReadStep, read_on};
 use crate::read_buffer::ReadBuffer;
 use http_wire::Asked;
 use http_wire::reader_parts::MAX_HELD_BYTES;
-use std::alloc::Global;
+use std::alloc::{AllocError, Global};
 use std::marker::Model;
-use xcap_io::{NoMemory, TrafficLog};
+use xcap_io::TrafficLog;
 
 /// The requests of one connection, of whose bytes it is given more as they come. It holds those
 /// that were given and not used yet. One that holds none has no memory.
@@ -82,8 +82,8 @@ impl RequestFeed {
     /// be given: at least one, if `wanted` is not 0 and `next` returned none.
     ///
     /// # Errors
-    /// `NoMemory` when out of memory. The feed is as it was.
-    pub fn reserve(&mut self, wanted: usize) -> Result<usize, NoMemory>
+    /// `AllocError` when out of memory. The feed is as it was.
+    pub fn reserve(&mut self, wanted: usize) -> Result<usize, AllocError>
         ensures up_to_limit { MakesRoom self.old wanted result self.new }
     {
         if self.spent {
@@ -155,10 +155,10 @@ impl RequestFeed {
     /// returns `End`, and holds nothing.
     ///
     /// # Errors
-    /// `NoMemory` when out of memory for the data of a chunked body. Nothing is decided then, and
+    /// `AllocError` when out of memory for the data of a chunked body. Nothing is decided then, and
     /// the call can be made again. (`Asked::NoMemory` comes in place of a request, and spends the
     /// feed.)
-    pub fn next(&mut self, alloc: Global) -> Result<Option<Asked>, NoMemory>
+    pub fn next(&mut self, alloc: Global) -> Result<Option<Asked>, AllocError>
         ensures spent_gives_none { self.old.reader.spent ≡ true
             → (result ≡ Ok (Some Asked.End)) × (self.new ≡ self.old) }
         ensures first_item { self.old.reader.spent ≡ false
@@ -199,8 +199,8 @@ impl RequestFeed {
     /// last one the feed is spent.
     ///
     /// # Errors
-    /// `NoMemory`, as for `next`.
-    pub fn next_at_end(&mut self, alloc: Global) -> Result<Asked, NoMemory>
+    /// `AllocError`, as for `next`.
+    pub fn next_at_end(&mut self, alloc: Global) -> Result<Asked, AllocError>
         ensures spent_gives_none { self.old.reader.spent ≡ true
             → (result ≡ Ok Asked.End) × (self.new ≡ self.old) }
         ensures last_item { self.old.reader.spent ≡ false

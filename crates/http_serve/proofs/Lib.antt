@@ -1,4 +1,5 @@
 pub mod Faults
+pub mod LentAnswers
 pub mod Ports
 pub mod Rooms
 pub mod Simulations

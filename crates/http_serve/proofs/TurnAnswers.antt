@@ -16,7 +16,8 @@ use Rattle.http_wire.proofs.Buffers.{buffered}
 use Rattle.http_wire.proofs.WholeItems.{asks-append}
 use Rattle.http_wire.specs.declared.close_reason.CloseReason.TheVariants.{Closed, ReadFailed, WriteFailed}
 use Rattle.http_serve.specs.FixedReplies.{fixed_reply}
-use Rattle.http_serve.specs.inner.ConnectionTurns.{AnswersNextRequest, IsNoneOrReadRequest, MakesTurn, KeepsOpen, IsFixedReply, ConnectionTurn}
+use Rattle.http_serve.specs.ItemAnswers.{AnswersNextRequest, IsNoneOrReadRequest, IsFixedReply}
+use Rattle.http_serve.specs.inner.ConnectionTurns.{MakesTurn, KeepsOpen, ConnectionTurn}
 
 -- the next item is the first one
 first_item : (before : ℕ) (given : List ℕ) (now : InputState) (item : Item) (held : List ℕ) → IsNextItem before given now item held → IsKnownFirstItem before given now.ended item

@@ -1,5 +1,6 @@
 pub mod FaultCounts
 pub mod FixedReplies
+pub mod ItemAnswers
 pub mod ReadRequests
 pub mod ReplyBytes
 pub mod ServedPorts

@@ -1,84 +1,43 @@
 //! Serves one connection to its end.
-ghost use Rattle.std.specs.Prelude.{◌≡◌, ◌≢◌, ℕ, suc, ◌+◌, true, false, None, IsTrue, MatchOption};
-ghost use Rattle.std.specs.Prelude.{option_to_list};
-ghost use Rattle.reply_text.specs.ReplyHeads.{plain_reply};
-ghost use Rattle.reply_text.specs.Statuses.{is_status};
+ghost use Rattle.std.specs.Prelude.{◌≡◌, ℕ, suc, ◌+◌, false, None, IfSome};
 ghost use Rattle.http_wire.specs.NextRequests.{fresh_request_reader};
 ghost use Rattle.http_serve.specs.ServedStreams.{ServesStream};
+ghost use Rattle.http_serve.specs.ItemAnswers.{AnswersNextRequest, IsNoneOrReadRequest};
 ghost use Rattle.http_serve.specs.FaultCounts.{OnlyExchangesBytes};
 ghost use Rattle.http_serve.specs.inner.OpenFaultCounts.{CountsFaultOfEnding};
-ghost use Rattle.http_serve.specs.ReadRequests.{IsReadRequest};
-ghost use Rattle.http_serve.specs.inner.ConnectionTurns.{AnswersNextRequest, IsNoneOrReadRequest};
 ghost use Rattle.http_serve.specs.inner.ConnectionTurns.{KeepsOpen, ConnectionTurn};
 ghost use Rattle.http_serve.specs.ReplyBytes.{StepsInBytes};
 
 use crate::connection_buffers::ConnectionBuffers;
-use crate::machine::{Machine, MachineReply};
-use http_wire::{Asked, CloseReason, ReadFault, Request, next_request, write_reply_through};
-use reply_text::Reply;
+use crate::item_answers::{answer_next, notify_of_edit};
+use crate::machine::Machine;
+use http_wire::{
+    Asked, CloseReason, LentReply, ReadFault, next_request, write_lent_through, write_reply_through,
+};
 use std::alloc::AllocError;
 use watchers::Watchers;
 use xcap_io::{Failed, Line, Sink, Source};
 
-// The fixed reply with this status.
-fn closing_reply<E>(status: u16) -> MachineReply<E>
-    requires valid_status { IsTrue (is_status status) }
-    requires plain_status { (status ≢ 304) × (status ≢ 405) × (status ≢ 409) }
-    ensures fixed_reply { result.reply ≡ plain_reply status true }
-    ensures no_change { result.edit ≡ None }
-{
-    MachineReply {
-        reply: Reply::fixed(status, true),
-        edit: None,
-    }
-}
-
-// The machine's reply; when out of memory the fixed 503.
-fn answer_request<M: Machine>(machine: &mut M, request: &Request) -> MachineReply<M::Edit>
-    requires request_read { IsReadRequest request.now }
-    requires room_left { M.takes machine.old 1 }
-    ensures machine_reply { AnswersNextRequest (StepsInBytes M.steps) machine.old
-        (Asked.Request request.now) result.reply result.edit machine.new }
-    ensures takes_one_fewer { (n : ℕ) → M.takes machine.old (suc n) → M.takes machine.new n }
-{
-    match machine.answer(request) {
-        Ok(answered) => answered,
-        Err(AllocError) => closing_reply(503),
-    }
-}
-
-// The reply to the reader's result; None at the end of the connection.
-fn answer_next<M: Machine>(machine: &mut M, asked: &Asked) -> Option<MachineReply<M::Edit>>
+// The reply that the machine lends to the reader's result, if it does.
+fn lend_reply<'a, M: Machine>(machine: &'a M, asked: &Asked) -> Option<LentReply<'a>>
     requires request_read { IsNoneOrReadRequest asked.now }
-    requires room_left { M.takes machine.old 1 }
-    ensures request_answer { MatchOption result
-        ((asked.now ≡ Asked.End) × (machine.new ≡ machine.old))
-        (λ answered. AnswersNextRequest
-        (StepsInBytes M.steps) machine.old asked.now answered.reply answered.edit machine.new) }
-    ensures takes_one_fewer { (n : ℕ) → M.takes machine.old (suc n) → M.takes machine.new n }
+    requires room_left { M.takes machine.now 1 }
+    ensures request_answer { IfSome result
+        (λ reply. AnswersNextRequest
+        (StepsInBytes M.steps) machine.now asked.now reply None machine.now) }
 {
-    match asked {
-        Asked::Request(request) => Some(answer_request(machine, request)),
-        Asked::Bad => Some(closing_reply(400)),
-        Asked::TooLong => Some(closing_reply(413)),
-        Asked::Coded => Some(closing_reply(501)),
-        Asked::NoMemory => Some(closing_reply(503)),
-        Asked::End => None,
-    }
-}
-
-// Notifies the watchers of an edit, if there is one.
-fn notify_of_edit<E, W: Watchers<E>>(watchers: &mut W, edit: &Option<E>)
-    ensures notifies_watchers { W.keeps (option_to_list edit.now) watchers.old watchers.new }
-{
-    let Some(edit) = edit else {
-        return;
+    let Asked::Request(request) = asked else {
+        return None;
     };
-    watchers.notify(edit);
+    match machine.answer_reading(request) {
+        Ok(lent) => lent,
+        Err(AllocError) => None,
+    }
 }
 
 // Reads the next request by a reader that isn't spent, answers it, notifies the watchers, and
-// replies. None where the connection goes on.
+// replies: first with a body that the machine lends, if it does. None where the connection goes
+// on.
 fn serve_next<M: Machine, L: Source + Sink, W: Watchers<M::Edit>>(
     machine: &mut M,
     buffers: &mut ConnectionBuffers,
@@ -110,6 +69,16 @@ fn serve_next<M: Machine, L: Source + Sink, W: Watchers<M::Edit>>(
         Ok(asked) => asked,
         Err(ReadFault) => return Some(CloseReason::ReadFailed),
     };
+    if let Some(lent) = lend_reply(machine, &asked) {
+        match write_lent_through(line, &mut buffers.write_buffer, &lent) {
+            Ok(()) => {}
+            Err(Failed) => return Some(CloseReason::WriteFailed),
+        }
+        if lent.closes() {
+            return Some(CloseReason::Closed);
+        }
+        return None;
+    }
     let Some(answered) = answer_next(machine, &asked) else {
         return Some(CloseReason::Closed);
     };

@@ -10,11 +10,12 @@
 mod accept_loop;
 mod connection;
 mod connection_buffers;
+mod item_answers;
 mod machine;
 
 pub use accept_loop::{ServeSummary, StopReason, serve_streams};
 pub use connection::serve_stream;
 pub use connection_buffers::ConnectionBuffers;
 pub use http_wire::CloseReason;
+pub use item_answers::{answer_next, notify_of_edit};
 pub use machine::{Machine, MachineReply};
-pub use std::alloc::AllocError as NoMemory;

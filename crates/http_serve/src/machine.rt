@@ -1,10 +1,10 @@
 //! The machine that answers requests.
-ghost use Rattle.std.specs.Prelude.{◌≡◌, ℕ, suc, Option, IfOk, OnErr};
+ghost use Rattle.std.specs.Prelude.{◌≡◌, ℕ, suc, Option, None, IfOk, IfSome, OnErr};
 ghost use Rattle.reply_text.specs.ReplyHeads.{SentReply};
 ghost use Rattle.http_wire.specs.declared.request.Request.{Request as TheRequest};
 ghost use Rattle.http_serve.specs.ReadRequests.{IsReadRequest};
 
-use http_wire::Request;
+use http_wire::{LentReply, Request};
 use reply_text::Reply;
 use std::alloc::AllocError;
 
@@ -26,11 +26,25 @@ pub trait Machine {
     /// The machine can answer this many more requests.
     ghost takes: { Self → ℕ → Type 0 };
 
+    /// The reply to a request that was read on a connection, its body lent by the machine, which
+    /// is unchanged: None where the request is to be answered by `answer`. The reply closes the
+    /// connection exactly where the request does.
+    ///
+    /// # Errors
+    /// `AllocError` when out of memory.
+    fn answer_reading<'a>(&'a self, request: &Request) -> Result<Option<LentReply<'a>>, AllocError>
+        requires request_read { IsReadRequest request.now }
+        requires room_left { takes self.now 1 }
+        ensures makes_step { IfOk result (λ lent. IfSome lent
+            (λ reply. steps self.now request.now reply self.now None)) }
+        ensures closes_as_asked { IfOk result (λ lent. IfSome lent
+            (λ reply. reply.closes ≡ request.now.closes)) };
+
     /// Answers a request that was read on a connection. The reply closes the connection exactly
     /// where the request does.
     ///
     /// # Errors
-    /// `NoMemory` when out of memory; the state is then unchanged.
+    /// `AllocError` when out of memory; the state is then unchanged.
     fn answer(&mut self, request: &Request) -> Result<MachineReply<Self::Edit>, AllocError>
         requires request_read { IsReadRequest request.now }
         requires room_left { takes self.old 1 }

@@ -12,9 +12,8 @@ ghost use Rattle.http_wire.specs.inner.ChunkDecoder.{DecodesBytes, IsWithinLimit
 
 use crate::limits::{MAX_BODY_BYTES, MAX_DIGITS, MAX_LINE, MAX_TRAILER_BYTES};
 use httparse::{is_header_value_token, is_space_or_tab, parse_hex_digit};
-use std::alloc::Global;
+use std::alloc::{AllocError, Global};
 use std::marker::Model;
-use xcap_io::NoMemory;
 
 // The decoder's state: the next expected part of a chunked body.
 #[derive(Clone, Copy)]
@@ -194,7 +193,7 @@ impl Model for Decoder {
 }
 
 impl Decoder {
-    pub fn new(alloc: Global) -> Result<Decoder, NoMemory>
+    pub fn new(alloc: Global) -> Result<Decoder, AllocError>
         ensures ok { IfOk result (λ decoder. decoder ≡ initial_decoding) }
     {
         Ok(Decoder {

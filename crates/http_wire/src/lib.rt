@@ -13,6 +13,7 @@ mod close_reason;
 mod framing;
 mod head_scan;
 mod laws;
+mod lent_reply;
 mod limits;
 pub mod reader_parts;
 mod reply_writer;
@@ -26,8 +27,9 @@ pub use framing::{FieldLookup, find_field, is_same_ignoring_case, trim_end, trim
 pub use laws::{
     bytes_have_one_item_sequence, complete_items_stay_first, given_bytes_determine_first_item,
 };
+pub use lent_reply::LentReply;
 pub use limits::{MAX_BODY_BYTES, MAX_FIELD_LINES, MAX_HEAD_BYTES, MAX_REQUESTS};
-pub use reply_writer::{write_reply, write_reply_through};
+pub use reply_writer::{write_lent, write_lent_through, write_reply, write_reply_through};
 pub use request::{Asked, Field, Request, token_text};
 pub use request_reader::{ReadFault, RequestReader};
 pub use request_sequence::next_request;

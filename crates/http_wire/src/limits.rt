@@ -18,7 +18,7 @@ pub const MAX_DIGITS: usize = 16;
 /// 400.
 pub const MAX_LINE_BYTES: usize = 256;
 
-/// The same without the line end.
+/// The greatest number of bytes of a chunk line without its line end: 254.
 pub const MAX_LINE: usize = MAX_LINE_BYTES - 2;
 
 /// The greatest number of bytes of all trailer lines of a body together: 16,384. More get a 400.

@@ -7,8 +7,8 @@ ghost use Rattle.http_wire.specs.ConnectionItems.{field_of};
 use crate::framing::asks_to_close;
 use crate::limits::MAX_REQUESTS;
 use httparse::spans::{HeaderSpan, RequestSpans};
-use std::alloc::Global;
-use xcap_io::{Bytes, NoMemory};
+use std::alloc::{AllocError, Global};
+use xcap_io::Bytes;
 use xml_names::{List, Text};
 
 /// A field line of a head (RFC 9110, section 5): the name as it was spelled, and the value without
@@ -52,7 +52,7 @@ pub enum Asked {
 ///
 /// # Errors
 /// Out of memory, and nothing else.
-pub fn token_text(alloc: Global, token: &[u8]) -> Result<Text, NoMemory>
+pub fn token_text(alloc: Global, token: &[u8]) -> Result<Text, AllocError>
     ensures ok { IfOk result (λ text. text ≡ token.now) }
 {
     let mut text = Text::own(String::new(alloc));
@@ -62,7 +62,7 @@ pub fn token_text(alloc: Global, token: &[u8]) -> Result<Text, NoMemory>
     Ok(text)
 }
 
-fn fields_of(alloc: Global, bytes: &[u8], headers: &[HeaderSpan]) -> Result<List<Field>, NoMemory>
+fn fields_of(alloc: Global, bytes: &[u8], headers: &[HeaderSpan]) -> Result<List<Field>, AllocError>
     requires { All (IsHeaderWithin (length bytes.now)) headers.now }
     ensures ok { IfOk result
         (λ fields. fields ≡ map field_of (map (header_bytes bytes.now) headers.now)) }
@@ -85,7 +85,7 @@ pub fn make_request(
     spans: &RequestSpans,
     body: &[u8],
     before: usize,
-) -> Result<Request, NoMemory>
+) -> Result<Request, AllocError>
     requires { IsRequestWithin bytes.now headers.now spans.now }
     ensures method_of_head { IfOk result
         (λ request. request.method ≡ span_bytes bytes.now spans.now.method) }

@@ -8,9 +8,9 @@ ghost use Rattle.http_wire.specs.inner.ReadBuffer.{BuffersEnoughOrEnds};
 
 use crate::chunk_decoder::Decoder;
 use crate::limits::MAX_HELD_BYTES;
-use std::alloc::Global;
+use std::alloc::{AllocError, Global};
 use std::marker::Model;
-use xcap_io::{Failed, Line, NoMemory, Source};
+use xcap_io::{Failed, Line, Source};
 
 /// A read of the source failed, and its counter of read faults rose.
 #[derive(Clone, Copy, PartialEq, Eq)]
@@ -49,7 +49,7 @@ fn move_to_front(buffer: &mut [u8], start: usize, end: usize)
 }
 
 impl ReadBuffer {
-    pub fn new(alloc: Global) -> Result<ReadBuffer, NoMemory>
+    pub fn new(alloc: Global) -> Result<ReadBuffer, AllocError>
         ensures holds_no_bytes { IfOk result (λ read_buffer. read_buffer ≡ []) }
     {
         Ok(ReadBuffer {
@@ -166,8 +166,8 @@ impl RequestReader {
     /// requests.
     ///
     /// # Errors
-    /// `NoMemory` when out of memory.
-    pub fn new(alloc: Global) -> Result<RequestReader, NoMemory>
+    /// `AllocError` when out of memory.
+    pub fn new(alloc: Global) -> Result<RequestReader, AllocError>
         ensures ok { IfOk result (λ request_reader. request_reader ≡ fresh_request_reader) }
     {
         Ok(RequestReader {

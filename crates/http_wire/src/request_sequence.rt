@@ -13,8 +13,8 @@ use crate::limits::{MAX_BODY_BYTES, MAX_FIELD_LINES};
 use crate::request::{Asked, make_request};
 use crate::request_reader::{ReadBuffer, ReadFault, RequestReader};
 use httparse::spans::{EMPTY_HEADER_SPAN, HeaderSpan, RequestSpans};
-use std::alloc::Global;
-use xcap_io::{Line, NoMemory, Source};
+use std::alloc::{AllocError, Global};
+use xcap_io::{Line, Source};
 
 // Reads the request whose head was found at the front, with a body of a stated length.
 fn read_with_length<S: Source>(
@@ -43,7 +43,7 @@ fn read_with_length<S: Source>(
             read_buffer.consume(end);
             Ok(Asked::Request(request))
         }
-        Err(NoMemory) => Ok(Asked::NoMemory),
+        Err(AllocError) => Ok(Asked::NoMemory),
     }
 }
 
@@ -77,7 +77,7 @@ fn read_chunked<S: Source>(
                     read_buffer.consume(end);
                     Ok(Asked::Request(request))
                 }
-                Err(NoMemory) => Ok(Asked::NoMemory),
+                Err(AllocError) => Ok(Asked::NoMemory),
             }
         }
         DecodeResult::TooLong => Ok(Asked::TooLong),

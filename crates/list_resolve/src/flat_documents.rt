@@ -8,8 +8,8 @@ ghost use Rattle.xml_tree.specs.Tree.{content_of_children, tree_of};
 ghost use Rattle.list_resolve.specs.Documents.{entry_tree, flat_document, flat_tree, list_tree};
 
 use crate::fault::FlatFault;
-use std::alloc::Global;
-use xml_names::{Attr, Decl, LocalName, Name, NoMemory, Prefix, ReadError, Text};
+use std::alloc::{AllocError, Global};
+use xml_names::{Attr, Decl, LocalName, Name, Prefix, ReadError, Text};
 use xml_tree::{Element, printed_len};
 
 /// The greatest number of bytes of the printed document.
@@ -22,7 +22,7 @@ const LISTS: &str = "urn:ietf:params:xml:ns:resource-lists";
 
 // A text of these letters.
 #[tactic(auto, using(usage_docs::proofs::Words::chars_ascii))]
-fn word(alloc: Global, word: &str) -> Result<Text, NoMemory>
+fn word(alloc: Global, word: &str) -> Result<Text, AllocError>
     requires { IsTrue (is_ascii word.now) }
     ensures ok { IfOk result (λ made. made ≡ word.now) }
 {
@@ -31,7 +31,7 @@ fn word(alloc: Global, word: &str) -> Result<Text, NoMemory>
 
 // A local name of these letters.
 #[tactic(auto, using(usage_docs::proofs::Words::chars_ascii))]
-fn local_name(alloc: Global, word: &str) -> Result<LocalName, NoMemory>
+fn local_name(alloc: Global, word: &str) -> Result<LocalName, AllocError>
     requires { IsTrue (is_ascii word.now) }
     ensures ok { IfOk result (λ made. made ≡ word.now) }
 {
@@ -39,7 +39,7 @@ fn local_name(alloc: Global, word: &str) -> Result<LocalName, NoMemory>
 }
 
 // A name without a prefix.
-fn plain_name(alloc: Global, local: &str) -> Result<Name, NoMemory>
+fn plain_name(alloc: Global, local: &str) -> Result<Name, AllocError>
     requires { IsTrue (is_ascii local.now) }
     ensures name_without_prefix { IfOk result (λ made. made ≡ name_from_parts [] local.now) }
 {
@@ -49,7 +49,7 @@ fn plain_name(alloc: Global, local: &str) -> Result<Name, NoMemory>
 }
 
 // An empty element of this name.
-fn empty(alloc: Global, local: &str) -> Result<Element, NoMemory>
+fn empty(alloc: Global, local: &str) -> Result<Element, AllocError>
     requires { IsTrue (is_ascii local.now) }
     ensures named_alone { IfOk result
         (λ made. made ≡ tree_of (name_from_parts [] local.now) [] [] (content_of_children [])) }
@@ -59,7 +59,7 @@ fn empty(alloc: Global, local: &str) -> Result<Element, NoMemory>
 }
 
 // Adds an address to an entry.
-fn push_uri(alloc: Global, entry: &mut Element, uri: &Text) -> Result<(), NoMemory>
+fn push_uri(alloc: Global, entry: &mut Element, uri: &Text) -> Result<(), AllocError>
     ensures ok { OnOk result
         (entry.new ≡ record entry.old {
           attrs =
@@ -73,7 +73,7 @@ fn push_uri(alloc: Global, entry: &mut Element, uri: &Text) -> Result<(), NoMemo
 }
 
 // The entry of an address.
-fn entry(alloc: Global, uri: &Text) -> Result<Element, NoMemory>
+fn entry(alloc: Global, uri: &Text) -> Result<Element, AllocError>
     ensures ok { IfOk result (λ made. made ≡ entry_tree uri.now) }
 {
     let mut entry = empty(alloc, "entry")?;
@@ -82,7 +82,7 @@ fn entry(alloc: Global, uri: &Text) -> Result<Element, NoMemory>
 }
 
 // Appends the entries of these addresses to a list that has none.
-fn push_entries(alloc: Global, list: &mut Element, uris: &[Text]) -> Result<(), NoMemory>
+fn push_entries(alloc: Global, list: &mut Element, uris: &[Text]) -> Result<(), AllocError>
     requires { list.old ≡ list_tree [] }
     ensures ok { OnOk result (list.new ≡ list_tree uris.now) }
 {
@@ -94,7 +94,7 @@ fn push_entries(alloc: Global, list: &mut Element, uris: &[Text]) -> Result<(), 
 }
 
 // The list of the entries of these addresses.
-fn list(alloc: Global, uris: &[Text]) -> Result<Element, NoMemory>
+fn list(alloc: Global, uris: &[Text]) -> Result<Element, AllocError>
     ensures ok { IfOk result (λ made. made ≡ list_tree uris.now) }
 {
     let mut list = empty(alloc, "list")?;
@@ -104,7 +104,7 @@ fn list(alloc: Global, uris: &[Text]) -> Result<Element, NoMemory>
 
 // Declares the namespace of lists, and appends the list.
 #[tactic(auto, unfolding(usage_docs::specs::SchemaTable::lists_namespace))]
-fn push_list(alloc: Global, root: &mut Element, uris: &[Text]) -> Result<(), NoMemory>
+fn push_list(alloc: Global, root: &mut Element, uris: &[Text]) -> Result<(), AllocError>
     requires { root.old
         ≡ tree_of (name_from_parts [] (codes "resource-lists")) [] [] (content_of_children []) }
     ensures declares_and_adds { OnOk result (root.new ≡ flat_tree uris.now) }
@@ -119,7 +119,7 @@ fn push_list(alloc: Global, root: &mut Element, uris: &[Text]) -> Result<(), NoM
 }
 
 // The root, with this list and nothing else.
-fn flat_list_root(alloc: Global, uris: &[Text]) -> Result<Element, NoMemory>
+fn flat_list_root(alloc: Global, uris: &[Text]) -> Result<Element, AllocError>
     ensures ok { IfOk result (λ made. made ≡ flat_tree uris.now) }
 {
     let mut root = empty(alloc, "resource-lists")?;

@@ -9,10 +9,10 @@ ghost use Rattle.xml_tree.specs.Tree.{last};
 ghost use Rattle.xcap_uri.specs.Roots.{slash};
 ghost use Rattle.list_resolve.specs.References.{is_wanted, reference_of};
 
-use std::alloc::Global;
+use std::alloc::{AllocError, Global};
 use usage_docs::{ElementKind, Key, value_of};
 use xcap_uri::Root;
-use xml_names::{Attr, NoMemory, Text, is_space};
+use xml_names::{Attr, Text, is_space};
 use xml_tokens::{chars_of_text, empty_text, text_of};
 use xml_tree::{Element, Node};
 
@@ -45,7 +45,7 @@ impl ReferenceTarget {
 }
 
 // The target of a `ref` with this value.
-fn ref_target(alloc: Global, root: &Root, value: &str) -> Result<Text, NoMemory>
+fn ref_target(alloc: Global, root: &Root, value: &str) -> Result<Text, AllocError>
     ensures ok { IfOk result (λ made. made ≡ root.now ++ slash ∷ chars value.now) }
 {
     let mut target = Text::from(alloc, root.text())?;
@@ -59,7 +59,7 @@ fn entry_reference(
     alloc: Global,
     root: &Root,
     attrs: &[Attr],
-) -> Result<Option<Reference>, NoMemory>
+) -> Result<Option<Reference>, AllocError>
     ensures ok { IfOk result (λ made. made ≡ reference_of root.now EntryRef attrs.now (last [])) }
 {
     let Some(value) = value_of(Key::Ref, attrs) else {
@@ -77,7 +77,7 @@ fn external_reference(
     alloc: Global,
     root: &Root,
     attrs: &[Attr],
-) -> Result<Option<Reference>, NoMemory>
+) -> Result<Option<Reference>, AllocError>
     ensures ok { IfOk result (λ made. made ≡ reference_of root.now External attrs.now (last [])) }
 {
     let Some(value) = value_of(Key::Anchor, attrs) else {
@@ -91,7 +91,7 @@ fn external_reference(
 }
 
 // The text of an element.
-fn element_text(alloc: Global, element: &Element) -> Result<Text, NoMemory>
+fn element_text(alloc: Global, element: &Element) -> Result<Text, AllocError>
     ensures ok { IfOk result (λ text. text ≡ content_text element.now.content) }
 {
     let mut inside = empty_text(alloc);
@@ -129,7 +129,7 @@ fn trim_back(mut letters: &[char]) -> &[char]
 
 // The text of an element without leading and trailing white space.
 #[tactic(auto, unfolding(usage_docs::specs::ReferenceForms::trim_text))]
-fn trim_text(alloc: Global, element: &Element) -> Result<Text, NoMemory>
+fn trim_text(alloc: Global, element: &Element) -> Result<Text, AllocError>
     ensures trims_ends { IfOk result (λ text. text ≡ trim_text (content_text element.now.content)) }
 {
     let inside = element_text(alloc, element)?;
@@ -140,13 +140,13 @@ fn trim_text(alloc: Global, element: &Element) -> Result<Text, NoMemory>
 /// The reference that an element of this kind is, under this root.
 ///
 /// # Errors
-/// `NoMemory` when out of memory.
+/// `AllocError` when out of memory.
 pub(crate) fn reference_of(
     alloc: Global,
     root: &Root,
     kind: ElementKind,
     element: &Element,
-) -> Result<Option<Reference>, NoMemory>
+) -> Result<Option<Reference>, AllocError>
     ensures ok { IfOk result
         (λ made. made ≡ reference_of root.now kind element.now.attrs element.now.content) }
 {

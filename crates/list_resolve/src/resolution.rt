@@ -19,7 +19,7 @@ use node_select::{End, Selector, select};
 use std::alloc::{AllocError, Global};
 use store_core::Store;
 use xcap_uri::{Root, Target, read_target};
-use xml_names::{NoMemory, ReadError, Text};
+use xml_names::{ReadError, Text};
 use xml_tree::{Element, Path};
 
 /// The context in which references are resolved: the stored documents, the XCAP root, and the home
@@ -149,11 +149,11 @@ fn resolve_target<'a>(
 /// Resolves a reference.
 ///
 /// # Errors
-/// `NoMemory` when out of memory.
+/// `AllocError` when out of memory.
 pub(crate) fn resolve_reference<'a>(
     ground: &ResolutionContext<'a>,
     reference: &Reference,
-) -> Result<Option<ResolvedReference<'a>>, NoMemory>
+) -> Result<Option<ResolvedReference<'a>>, AllocError>
     ensures exact { IfOk result
         (λ found. option_map resolved_view found
         ≡ resolve_in_context (context_view ground.now) reference.now) }

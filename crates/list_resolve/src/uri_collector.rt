@@ -8,9 +8,9 @@ ghost use Rattle.list_resolve.specs.inner.WalkStates.{with_visited_place};
 use crate::document_place::Place;
 use crate::fault::{FlatError, FlatFault};
 use indexmap::IndexSet;
-use std::alloc::Global;
+use std::alloc::{AllocError, Global};
 use std::marker::Model;
-use xml_names::{List, NoMemory, Text};
+use xml_names::{List, Text};
 
 /// The greatest number of references that a walk may meet.
 pub(crate) const MARK_LIMIT: usize = 4096;
@@ -58,8 +58,8 @@ impl UriCollector {
     /// Adds an address, unless it is there already.
     ///
     /// # Errors
-    /// `NoMemory` when out of memory.
-    pub(crate) fn add_uri(&mut self, uri: &str) -> Result<(), NoMemory>
+    /// `AllocError` when out of memory.
+    pub(crate) fn add_uri(&mut self, uri: &str) -> Result<(), AllocError>
         ensures ok { OnOk result
             (self.new ≡ with_collected_item self.old (address (chars uri.now))) }
     {
@@ -93,8 +93,8 @@ impl UriCollector {
     /// Records the place of an element that need not be walked again.
     ///
     /// # Errors
-    /// `NoMemory` when out of memory.
-    pub(crate) fn record_passed(&mut self, place: Place) -> Result<(), NoMemory>
+    /// `AllocError` when out of memory.
+    pub(crate) fn record_passed(&mut self, place: Place) -> Result<(), AllocError>
         ensures ok { OnOk result (self.new ≡ with_visited_place self.old place) }
     {
         self.passed.insert(place)?;
@@ -111,8 +111,8 @@ impl UriCollector {
     /// The addresses, in the order in which they were first met.
     ///
     /// # Errors
-    /// `NoMemory` when out of memory.
-    pub(crate) fn into_uris(self) -> Result<List<Text>, NoMemory>
+    /// `AllocError` when out of memory.
+    pub(crate) fn into_uris(self) -> Result<List<Text>, AllocError>
         ensures addresses_in_order { IfOk result (λ made. made ≡ self.tally.uris) }
         ensures gathered_few_marks { self.tally.marks ≤ MARK_LIMIT }
     {

@@ -24,8 +24,9 @@ use crate::reference::{Reference, reference_of};
 use crate::resolution::{ResolutionContext, ResolvedReference, resolve_reference};
 use crate::uri_collector::UriCollector;
 use crate::visit_chain::VisitChain;
+use std::alloc::AllocError;
 use usage_docs::{ElementKind, Key, kind_of, value_of};
-use xml_names::{Attr, IndexedDecls, NoMemory};
+use xml_names::{Attr, IndexedDecls};
 use xml_tree::{Element, LinkedScope, Node};
 
 // Collects the address of an entry with these attributes.
@@ -290,7 +291,7 @@ fn record_if_unmarked(
     marks: usize,
     place: Place,
     collector: &mut UriCollector,
-) -> Result<(), NoMemory>
+) -> Result<(), AllocError>
     requires passed { collector.old.tally.marks ≡ marks
         → IsFullyCollected (context_view ground.now) collector.old.tally.uris place }
     requires is_sound { HasSoundPlaces (context_view ground.now) collector.old }

@@ -29,7 +29,7 @@ pub trait DurableMachine {
     /// be appended, the reply is the 500, and the machine is unchanged.
     ///
     /// # Errors
-    /// `NoMemory` when out of memory; then nothing has changed.
+    /// `AllocError` when out of memory; then nothing has changed.
     fn answer_durably<L: ChangeLog>(
         &mut self,
         log: &mut L,

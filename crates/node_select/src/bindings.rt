@@ -41,7 +41,7 @@ impl Bindings {
     /// Binds a prefix, after the existing bindings.
     ///
     /// # Errors
-    /// `NoMemory` when out of memory; the bindings are then unchanged.
+    /// `AllocError` when out of memory; the bindings are then unchanged.
     pub fn bind(&mut self, prefix: &str, uri: &str) -> Result<(), AllocError>
         ensures appended { OnOk result
             (self.new ≡ self.old

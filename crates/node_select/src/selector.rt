@@ -75,7 +75,7 @@ impl NameTest {
     /// An equal test.
     ///
     /// # Errors
-    /// `NoMemory` when out of memory, as at each `copy` below.
+    /// `AllocError` when out of memory, as at each `copy` below.
     pub fn copy(&self, alloc: Global) -> Result<NameTest, AllocError>
         ensures equal_copy { IfOk result (λ made. made ≡ self.now) }
     {

@@ -207,7 +207,7 @@ pub fn read_patch_selector(
 /// bound or not. None if it spells no selector.
 ///
 /// # Errors
-/// `NoMemory` when out of memory.
+/// `AllocError` when out of memory.
 pub fn read_patch_form(alloc: Global, text: &str) -> Result<Option<PatchForm>, AllocError>
     ensures grammar_answer { IfOk result (IsPatchFormAnswer text.now) }
 {

@@ -213,9 +213,9 @@ fn step(alloc: Global, text: &str) -> Result<(RawStep<'_>, &str), ParseError<'_>
     ensures reads_rule { IsSameResult (λ x. (step_view x.0, chars x.1.now)) result
         (read_step (chars text.now)) }
 {
-    let (name, position, behind) = front(text)?;
-    let (test, rest) = optional_test(alloc, behind)?;
-    let front = count_before(text, behind);
+    let (name, position, after) = front(text)?;
+    let (test, rest) = optional_test(alloc, after)?;
+    let front = count_before(text, after);
     let size = count_before(text, rest);
     let step = RawStep {
         name,

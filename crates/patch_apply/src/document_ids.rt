@@ -34,11 +34,11 @@ fn parts_decode_to(alloc: Global, texts: &[&str], address: &[u8]) -> Result<bool
         let Some(here) = rest else {
             return Ok(false);
         };
-        let (part, behind) = cut(here, b'/');
+        let (part, after) = cut(here, b'/');
         if !part_decodes_to(alloc, text, part)? {
             return Ok(false);
         }
-        rest = behind;
+        rest = after;
     }
     Ok(rest.is_none())
 }

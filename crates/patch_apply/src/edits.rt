@@ -213,6 +213,6 @@ pub(crate) fn exchange_node_at(
     ensures ok { OnOk result
         (tree.new ≡ change_at path.now (exchange_nodes place (suc place) nodes.items) tree.old) }
 {
-    let behind = number_after(tree, path, place);
-    exchange_nodes_at(tree, path, place, behind, nodes)
+    let next = number_after(tree, path, place);
+    exchange_nodes_at(tree, path, place, next, nodes)
 }

@@ -158,11 +158,11 @@ fn end_of_cut(tree: &Element, gap: &InsertPosition, after: bool) -> usize
     ensures within_nodes { IsSomeAnd (at gap.now.path tree.now)
         (λ e. result ≤ length (nodes_of e.content)) }
 {
-    let behind = number_after(tree, &gap.path, gap.place);
+    let next = number_after(tree, &gap.path, gap.place);
     if !after {
-        return behind;
+        return next;
     }
-    number_after(tree, &gap.path, behind)
+    number_after(tree, &gap.path, next)
 }
 
 // Removes an element, and where it is asked for the node before it and the node after it.

@@ -27,7 +27,7 @@ fn is_document_element(scope: &Scope<'_>, element: &Element) -> bool
 /// and comments are ignored.
 ///
 /// # Errors
-/// `NoMemory` when out of memory.
+/// `AllocError` when out of memory.
 #[tactic(auto, using(xml_tree::proofs::Places::places))]
 pub fn documents(alloc: Global, notice: &Element) -> Result<Vec<&Element>, AllocError>
     ensures ok { IfOk result (λ all. map (λ x. x.now) all.items ≡ documents notice.now) }
@@ -48,7 +48,7 @@ pub fn documents(alloc: Global, notice: &Element) -> Result<Vec<&Element>, Alloc
 /// documents.
 ///
 /// # Errors
-/// `NoMemory` when out of memory.
+/// `AllocError` when out of memory.
 #[tactic(auto, using(xml_tree::proofs::Places::places))]
 pub fn operations_of_document<'a>(
     alloc: Global,
@@ -188,7 +188,7 @@ fn are_documents(
 /// (RFC 5874, section 3).
 ///
 /// # Errors
-/// `NoMemory` when out of memory.
+/// `AllocError` when out of memory.
 #[tactic(auto, using(crate::proofs::Words::words))]
 pub fn is_notice(alloc: Global, tree: &Element) -> Result<bool, AllocError>
     ensures exact { IfOk result (λ is. is ≡ is_notice tree.now) }

@@ -44,7 +44,7 @@ fn joined_text(alloc: Global, nodes: &[Node]) -> Result<Option<Text>, AllocError
 /// The texts in an element, joined; none where an element is in it. Comments are ignored.
 ///
 /// # Errors
-/// `NoMemory` when out of memory.
+/// `AllocError` when out of memory.
 pub fn content_value(alloc: Global, operation: &Element) -> Result<Option<Text>, AllocError>
     ensures ok { IfOk result (λ value. value ≡ content_value operation.now.content) }
 {

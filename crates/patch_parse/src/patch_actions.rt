@@ -250,7 +250,7 @@ fn action_by_name(
 /// none where they are no directive.
 ///
 /// # Errors
-/// `NoMemory` when out of memory.
+/// `AllocError` when out of memory.
 #[tactic(auto, using(crate::proofs::Words::words))]
 pub fn read_patch_action(
     alloc: Global,

@@ -17,7 +17,7 @@ const DIFF_URI: &str = "urn:ietf:params:xml:ns:xcap-diff";
 /// An empty element in the namespace of diff documents, with the given prefix.
 ///
 /// # Errors
-/// `NoMemory` when out of memory.
+/// `AllocError` when out of memory.
 pub fn new_diff_element(alloc: Global, prefix: &Prefix, word: &str) -> Result<Element, AllocError>
     ensures ok { IfOk result
         (λ made. made ≡ tree_of (name_from_parts prefix.now (chars word.now)) [] [] (last [])) }
@@ -30,7 +30,7 @@ pub fn new_diff_element(alloc: Global, prefix: &Prefix, word: &str) -> Result<El
 /// Gives an element an attribute without prefix, after its others.
 ///
 /// # Errors
-/// `NoMemory` when out of memory.
+/// `AllocError` when out of memory.
 #[tactic(auto, using(crate::proofs::Words::words))]
 pub fn push_plain_attr(
     alloc: Global,
@@ -80,7 +80,7 @@ fn declare_diff_root(
 /// its last `/`.
 ///
 /// # Errors
-/// `NoMemory` when out of memory.
+/// `AllocError` when out of memory.
 pub fn empty_notice(alloc: Global, prefix: &Prefix, root: &str) -> Result<Element, AllocError>
     ensures notice_without_documents { IfOk result
         (λ made. made ≡ diff prefix.now (chars root.now) []) }

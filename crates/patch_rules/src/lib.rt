@@ -11,4 +11,3 @@
 mod diff_elements;
 
 pub use diff_elements::{empty_notice, new_diff_element, push_plain_attr};
-pub use std::alloc::AllocError as NoMemory;

@@ -12,4 +12,3 @@ mod prefixes;
 
 pub use laws::the_prefix_is_the_first_free;
 pub use notices::{gone_notice, notice};
-pub use std::alloc::AllocError as NoMemory;

@@ -344,7 +344,7 @@ fn notice_tree(
 /// section 4.3).
 ///
 /// # Errors
-/// `NoMemory` when out of memory.
+/// `AllocError` when out of memory.
 pub fn notice(
     alloc: Global,
     mode: Mode,
@@ -406,7 +406,7 @@ fn gone_tree(alloc: Global, names: &Names, root: &Root, from: u64) -> Result<Ele
 /// version with the tag `from`.
 ///
 /// # Errors
-/// `NoMemory` when out of memory.
+/// `AllocError` when out of memory.
 pub fn gone_notice(alloc: Global, root: &Root, doc: &DocId, from: u64) -> Result<Bytes, AllocError>
     ensures ok { IfOk result
         (λ bytes. bytes ≡ encode_utf8_all

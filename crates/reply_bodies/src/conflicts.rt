@@ -6,9 +6,9 @@ ghost use Rattle.xml_tree.specs.Print.{document_print};
 ghost use Rattle.reply_bodies.specs.Conflicts.{HasNonEmptyUri, conflict_root, conflict_bytes};
 ghost use Rattle.reply_bodies.specs.Conflicts.{child_bytes};
 
-use std::alloc::Global;
+use std::alloc::{AllocError, Global};
 use xcap_io::Bytes;
-use xml_names::{NoMemory, Text, text_reference, value_reference};
+use xml_names::{Text, text_reference, value_reference};
 
 /// Why a request conflicts with the document that it addresses.
 #[derive(Drop)]
@@ -36,8 +36,8 @@ const CLOSING: &[u8] = b"</xcap-error>";
 /// The error document for this conflict.
 ///
 /// # Errors
-/// `NoMemory` when out of memory.
-pub fn error_document(alloc: Global, body: &ErrorBody) -> Result<Bytes, NoMemory>
+/// `AllocError` when out of memory.
+pub fn error_document(alloc: Global, body: &ErrorBody) -> Result<Bytes, AllocError>
     ensures ok { IfOk result (λ document. document ≡ conflict_bytes body.now) }
     ensures prints_error { HasNonEmptyUri body.now
         → IfOk result (λ document. document
@@ -48,7 +48,7 @@ pub fn error_document(alloc: Global, body: &ErrorBody) -> Result<Bytes, NoMemory
 }
 
 // Builds the document, piece by piece.
-fn document(alloc: Global, body: &ErrorBody) -> Result<Bytes, NoMemory>
+fn document(alloc: Global, body: &ErrorBody) -> Result<Bytes, AllocError>
     ensures ok { IfOk result (λ document. document ≡ conflict_bytes body.now) }
 {
     let mut document = Bytes::new(alloc);
@@ -59,7 +59,7 @@ fn document(alloc: Global, body: &ErrorBody) -> Result<Bytes, NoMemory>
 }
 
 // Appends the child of the root.
-fn push_child(document: &mut Bytes, body: &ErrorBody) -> Result<(), NoMemory>
+fn push_child(document: &mut Bytes, body: &ErrorBody) -> Result<(), AllocError>
     ensures appended { OnOk result (document.new ≡ document.old ++ child_bytes body.now) }
 {
     match body {
@@ -77,7 +77,7 @@ fn push_child(document: &mut Bytes, body: &ErrorBody) -> Result<(), NoMemory>
 }
 
 // Appends the child that names an ancestor.
-fn push_no_parent(document: &mut Bytes, uri: &[u8]) -> Result<(), NoMemory>
+fn push_no_parent(document: &mut Bytes, uri: &[u8]) -> Result<(), AllocError>
     ensures appended { OnOk result
         (document.new ≡ document.old
         ++ (codes "<no-parent><ancestor>" ++ flat_map text_escape uri.now
@@ -90,7 +90,7 @@ fn push_no_parent(document: &mut Bytes, uri: &[u8]) -> Result<(), NoMemory>
 }
 
 // Appends the child that names an attribute.
-fn push_unique(document: &mut Bytes, field: &[u8]) -> Result<(), NoMemory>
+fn push_unique(document: &mut Bytes, field: &[u8]) -> Result<(), AllocError>
     ensures adds_attribute { OnOk result
         (document.new ≡ document.old
         ++ (codes "<uniqueness-failure><exists field=\"" ++ flat_map value_escape field.now
@@ -103,7 +103,7 @@ fn push_unique(document: &mut Bytes, field: &[u8]) -> Result<(), NoMemory>
 }
 
 // Appends a text, its markup escaped.
-fn push_text(document: &mut Bytes, text: &[u8]) -> Result<(), NoMemory>
+fn push_text(document: &mut Bytes, text: &[u8]) -> Result<(), AllocError>
     ensures appended { OnOk result (document.new ≡ document.old ++ flat_map text_escape text.now) }
 {
     for byte in text {
@@ -113,7 +113,7 @@ fn push_text(document: &mut Bytes, text: &[u8]) -> Result<(), NoMemory>
 }
 
 // Appends an attribute value in quotes, its markup escaped.
-fn push_value(document: &mut Bytes, value: &[u8]) -> Result<(), NoMemory>
+fn push_value(document: &mut Bytes, value: &[u8]) -> Result<(), AllocError>
     ensures appended { OnOk result
         (document.new ≡ document.old ++ flat_map value_escape value.now) }
 {
@@ -124,7 +124,7 @@ fn push_value(document: &mut Bytes, value: &[u8]) -> Result<(), NoMemory>
 }
 
 // Appends a byte, or the reference that it is written as.
-fn push_byte(document: &mut Bytes, byte: u8, reference: Option<&str>) -> Result<(), NoMemory>
+fn push_byte(document: &mut Bytes, byte: u8, reference: Option<&str>) -> Result<(), AllocError>
     ensures special_escaped { IfSome reference.entry
         (λ letters. OnOk result (document.new ≡ document.old ++ letters.now)) }
     ensures plain_as_itself { IfNone reference.entry

@@ -17,4 +17,3 @@ pub use conflicts::{ErrorBody, error_document};
 pub use laws::{elements_have_places_below_their_parents, texts_are_those_of_found_nodes};
 pub use node_places::has_place;
 pub use nodes::{found_text, has_node_at, node_media_type};
-pub use xml_names::NoMemory;

@@ -13,10 +13,10 @@ ghost use Rattle.reply_bodies.specs.Nodes.{node_text_at};
 
 use node_select::{End, Selector, find_attr, select};
 use reply_text::MediaType;
-use std::alloc::Global;
+use std::alloc::{AllocError, Global};
 use tree_print::{print_att_value, print_element};
 use xcap_io::Bytes;
-use xml_names::{Attr, Decl, Name, NoMemory, Text};
+use xml_names::{Attr, Decl, Name, Text};
 use xml_tree::{Element, Path, Scope, element_at};
 
 // ---- one node
@@ -37,7 +37,7 @@ fn find_attribute<'a>(
 }
 
 // The value of an attribute, if there is one, as a reply's body.
-fn attribute_text(alloc: Global, attr: Option<&Attr>) -> Result<Option<Bytes>, NoMemory>
+fn attribute_text(alloc: Global, attr: Option<&Attr>) -> Result<Option<Bytes>, AllocError>
     ensures ok { IfOk result
         (λ text. text
         ≡ encode_optional (option_map (λ a. body_print a.value) (option_copied attr.entry))) }
@@ -52,7 +52,7 @@ fn attribute_text(alloc: Global, attr: Option<&Attr>) -> Result<Option<Bytes>, N
 }
 
 // An element without content, with these declarations.
-fn declaring_element(alloc: Global, name: &Name, decls: Vec<Decl>) -> Result<Element, NoMemory>
+fn declaring_element(alloc: Global, name: &Name, decls: Vec<Decl>) -> Result<Element, AllocError>
     ensures ok { IfOk result (λ made. made ≡ tree_of name.now decls.items [] (last [])) }
 {
     let mut element = Element::new(alloc, name.copy(alloc)?);
@@ -63,7 +63,7 @@ fn declaring_element(alloc: Global, name: &Name, decls: Vec<Decl>) -> Result<Ele
 }
 
 // All bindings in scope at an element, as the declarations of an empty element with its name.
-fn bindings_text(alloc: Global, element: &Element, scope: &Scope<'_>) -> Result<Bytes, NoMemory>
+fn bindings_text(alloc: Global, element: &Element, scope: &Scope<'_>) -> Result<Bytes, AllocError>
     ensures declares_scope { IfOk result
         (λ text. Some text ≡ encode_optional
         (Some (print (tree_of element.now.name (in_scope_bindings scope.now) [] (last []))))) }
@@ -74,7 +74,7 @@ fn bindings_text(alloc: Global, element: &Element, scope: &Scope<'_>) -> Result<
 }
 
 // The text of an element as it is in the document.
-fn element_text(alloc: Global, element: &Element) -> Result<Option<Bytes>, NoMemory>
+fn element_text(alloc: Global, element: &Element) -> Result<Option<Bytes>, AllocError>
     ensures ok { IfOk result (λ text. text ≡ encode_optional (Some (print element.now))) }
 {
     let text = print_element(alloc, element)?;
@@ -87,7 +87,7 @@ fn node_text(
     element: &Element,
     scope: &Scope<'_>,
     end: &End,
-) -> Result<Option<Bytes>, NoMemory>
+) -> Result<Option<Bytes>, AllocError>
     ensures ok { IfOk result
         (λ text. text ≡ encode_optional (node_text end.now scope.now element.now)) }
 {
@@ -125,7 +125,7 @@ fn scoped_text_at(
     path: &Path,
     element: &Element,
     end: &End,
-) -> Result<Option<Bytes>, NoMemory>
+) -> Result<Option<Bytes>, AllocError>
     requires { at path.now root.now ≡ Some element.now }
     ensures ok { IfOk result
         (λ text. text ≡ encode_optional (node_text_at end.now path.now root.now)) }
@@ -143,7 +143,7 @@ fn node_text_at(
     root: &Element,
     path: &Path,
     end: &End,
-) -> Result<Option<Bytes>, NoMemory>
+) -> Result<Option<Bytes>, AllocError>
     ensures ok { IfOk result
         (λ text. text ≡ encode_optional (node_text_at end.now path.now root.now)) }
 {
@@ -181,12 +181,12 @@ pub fn has_node_at(alloc: Global, root: &Element, path: &Path, end: &End) -> boo
 /// None exactly where nothing is found. Only what is found is printed, not the document around it.
 ///
 /// # Errors
-/// `NoMemory` when out of memory.
+/// `AllocError` when out of memory.
 pub fn found_text(
     alloc: Global,
     root: &Element,
     selector: &Selector,
-) -> Result<Option<Bytes>, NoMemory>
+) -> Result<Option<Bytes>, AllocError>
     requires { height root.now ≤ MAX_LEVELS }
     ensures ok { IfOk result (λ text. text ≡ encode_optional (found_text root.now selector.now)) }
 {

@@ -5,8 +5,8 @@ ghost use Rattle.request_checks.specs.readers.Fields.{text_value, field_value, c
 ghost use Rattle.request_checks.specs.inner.FieldViews.{field_value_view};
 
 use crate::entity_tags::read_tags;
-use crate::{ConditionFault, EntityTag, NoMemory};
-use std::alloc::Global;
+use crate::{ConditionFault, EntityTag};
+use std::alloc::{AllocError, Global};
 use std::marker::Model;
 use xcap_io::Bytes;
 
@@ -39,7 +39,7 @@ impl Model for Conditions {
 }
 
 // The lines of a field as one text, joined by commas (RFC 9110, section 5.2).
-fn join_lines(alloc: Global, first: &Bytes, others: &[Bytes]) -> Result<Bytes, NoMemory>
+fn join_lines(alloc: Global, first: &Bytes, others: &[Bytes]) -> Result<Bytes, AllocError>
     ensures ok { IfOk result
         (λ text. text ≡ first.now ++ flat_map (λ line. codes "," ++ line) others.now) }
 {

@@ -2,10 +2,10 @@
 ghost use Rattle.std.specs.Prelude.{◌≡◌, IfOk};
 ghost use Rattle.request_checks.specs.Conditions.{IsConditionReply, outcome_reply};
 
-use crate::{NoMemory, Outcome, outcome};
+use crate::{Outcome, outcome};
 use http_wire::Request;
 use reply_text::Reply;
-use std::alloc::Global;
+use std::alloc::{AllocError, Global};
 use xcap_io::Bytes;
 
 // The reply of an outcome; None where the request goes on. Does not allocate.
@@ -25,14 +25,14 @@ fn outcome_reply(alloc: Global, outcome: Outcome, tag: Option<u64>, closes: bool
 /// The arguments are those of `outcome`.
 ///
 /// # Errors
-/// `NoMemory` when out of memory.
+/// `AllocError` when out of memory.
 pub fn condition_reply(
     alloc: Global,
     request: &Request,
     tag: Option<u64>,
     exists: bool,
     reading: bool,
-) -> Result<Option<Reply>, NoMemory>
+) -> Result<Option<Reply>, AllocError>
     ensures exact { IfOk result (λ reply. IsConditionReply request.now tag exists reading reply) }
 {
     let outcome = outcome(alloc, request, tag, exists, reading)?;

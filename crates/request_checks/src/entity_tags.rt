@@ -8,8 +8,8 @@ ghost use Rattle.request_checks.specs.readers.Fields.{after_byte, after_closing_
 ghost use Rattle.request_checks.specs.readers.Fields.{opaque_front, first_tag};
 ghost use Rattle.request_checks.specs.readers.Fields.{tags_from, with_tags, entity_tag};
 
-use crate::{ConditionFault, NoMemory};
-use std::alloc::Global;
+use crate::ConditionFault;
+use std::alloc::{AllocError, Global};
 use xcap_io::Bytes;
 
 /// An entity tag.
@@ -118,7 +118,7 @@ fn push_etag(
     tags: &mut Vec<EntityTag>,
     weak: bool,
     opaque: &[u8],
-) -> Result<(), NoMemory>
+) -> Result<(), AllocError>
     ensures appended { OnOk result
         (tags.new.items ≡ tags.old.items ++ entity_tag weak opaque.now ∷ []) }
 {
@@ -132,7 +132,7 @@ fn read_list_part<'a>(
     alloc: Global,
     text: &'a [u8],
     tags: &mut Vec<EntityTag>,
-) -> Result<&'a [u8], NoMemory>
+) -> Result<&'a [u8], AllocError>
     ensures reads_rule { IfOk result
         (λ rest. with_tags tags.old.items (tags_from Before text.now)
         ≡ with_tags tags.new.items (tags_from AfterTag rest.now)) }

@@ -6,9 +6,8 @@ ghost use Rattle.std.specs.Char.{is_ascii};
 ghost use Rattle.http_wire.specs.Fields.{same_ignoring_case};
 ghost use Rattle.request_checks.specs.Rights.{fields_named};
 
-use crate::NoMemory;
 use http_wire::{Field, is_same_ignoring_case};
-use std::alloc::Global;
+use std::alloc::{AllocError, Global};
 use xcap_io::Bytes;
 use xml_names::{List, Text};
 
@@ -71,7 +70,7 @@ pub fn copy_values(
     alloc: Global,
     mut fields: &[Field],
     name: &[u8],
-) -> Result<List<Bytes>, NoMemory>
+) -> Result<List<Bytes>, AllocError>
     requires { IsTrue (list_all is_ascii name.now) }
     ensures ok { IfOk result (λ values. values ≡ fields_named name.now fields.now) }
 {

@@ -36,5 +36,4 @@ pub use media_types::{document_media_type, has_media_type};
 pub use method::Method;
 pub use outcomes::outcome;
 pub use rights::is_allowed;
-pub use std::alloc::AllocError as NoMemory;
 pub use verdicts::{Verdict, condition};

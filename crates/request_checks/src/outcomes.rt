@@ -7,7 +7,7 @@ ghost use Rattle.request_checks.specs.Conditions.{HasOutcome, outcome_of_verdict
 ghost use Rattle.request_checks.specs.declared.conditions.Outcome.TheVariants.{Unreadable};
 
 use crate::field_values::copy_values;
-use crate::{ConditionFault, NoMemory, Outcome, Verdict, condition, read_conditions};
+use crate::{ConditionFault, Outcome, Verdict, condition, read_conditions};
 use http_wire::Request;
 use std::alloc::{AllocError, Global};
 use xcap_io::Bytes;
@@ -29,7 +29,7 @@ fn outcome_by_lines(
     tag: Option<u64>,
     exists: bool,
     reading: bool,
-) -> Result<Outcome, NoMemory>
+) -> Result<Outcome, AllocError>
     ensures outcome_of_lines { IfOk result
         (λ o. (said : Option Preconditions)
         × IsConditionsReading if_match.now if_none_match.now said
@@ -49,14 +49,14 @@ fn outcome_by_lines(
 /// method is GET or HEAD.
 ///
 /// # Errors
-/// `NoMemory` when out of memory.
+/// `AllocError` when out of memory.
 pub fn outcome(
     alloc: Global,
     request: &Request,
     tag: Option<u64>,
     exists: bool,
     reading: bool,
-) -> Result<Outcome, NoMemory>
+) -> Result<Outcome, AllocError>
     ensures outcome_of_conditions { IfOk result
         (λ o. HasOutcome request.now.fields tag exists reading o) }
 {

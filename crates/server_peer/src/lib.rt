@@ -15,4 +15,3 @@ mod server_end;
 mod written_bytes;
 
 pub use peer::ServerPeer;
-pub use std::alloc::AllocError as NoMemory;

@@ -11,11 +11,9 @@ ghost use Rattle.server_peer.specs.Peers.{new_peer, peer_line};
 
 use crate::replies::Replies;
 use crate::written_bytes::WrittenBytes;
-use std::alloc::Global;
+use std::alloc::{AllocError, Global};
 use std::marker::Model;
-use xcap_io::{
-    AddressHistory, Failed, Line, NoMemory, Peer, Sink, Source, TrafficLog, count_fault,
-};
+use xcap_io::{AddressHistory, Failed, Line, Peer, Sink, Source, TrafficLog, count_fault};
 use xcap_server::Server;
 
 /// A peer whose connections lead to a server in memory. What was written on a connection since the
@@ -65,7 +63,7 @@ impl Model for ServerPeer {
 }
 
 // Buffers for the bytes written and for the replies, of `room` bytes each.
-fn new_buffers(alloc: Global, room: usize) -> Result<(WrittenBytes, Replies), NoMemory>
+fn new_buffers(alloc: Global, room: usize) -> Result<(WrittenBytes, Replies), AllocError>
     ensures both_empty { IfOk result
         (λ both. (both.0 ≡ record { bytes = []; served = 0; room = room })
         × (both.1 ≡ record { bytes = []; more = false; room = room })) }
@@ -81,14 +79,14 @@ impl ServerPeer {
     /// allocated.
     ///
     /// # Errors
-    /// `NoMemory` when out of memory.
-    pub fn new(alloc: Global, server: Server, room: usize) -> Result<ServerPeer, NoMemory>
+    /// `AllocError` when out of memory.
+    pub fn new(alloc: Global, server: Server, room: usize) -> Result<ServerPeer, AllocError>
         ensures ok { IfOk result (λ peer. peer ≡ new_peer server room) }
     {
         let Ok((written, replies)) = new_buffers(alloc, room) else {
             // Dropped by a call, whose proof is made once, rather than at each exit.
             drop(server);
-            return Err(NoMemory);
+            return Err(AllocError);
         };
         Ok(ServerPeer {
             alloc,

@@ -3,9 +3,8 @@ ghost use Rattle.std.specs.Prelude.{◌≡◌, ◌<◌, ◌≤◌, ◌^◌, ◌&
 ghost use Rattle.server_peer.specs.ServedBytes.{AddsReplies};
 
 use crate::serve_bytes::reply_to;
-use std::alloc::Global;
+use std::alloc::{AllocError, Global};
 use std::marker::Model;
-use xcap_io::NoMemory;
 use xcap_server::Server;
 
 // The bytes of replies that fit into the buffer, and whether there were more.
@@ -34,7 +33,7 @@ impl Model for Replies {
 
 impl Replies {
     // No replies, and a buffer of `room` bytes.
-    pub(crate) fn new(alloc: Global, room: usize) -> Result<Replies, NoMemory>
+    pub(crate) fn new(alloc: Global, room: usize) -> Result<Replies, AllocError>
         ensures nothing_is_replied { IfOk result
             (λ replies. replies ≡ record { bytes = []; more = false; room = room }) }
     {

@@ -1,9 +1,8 @@
 // The bytes written on the current connection.
 ghost use Rattle.std.specs.Prelude.{◌≡◌, ◌≤◌, ◌-◌, [], ◌++◌, min, length, take, drop, IfOk};
 
-use std::alloc::Global;
+use std::alloc::{AllocError, Global};
 use std::marker::Model;
-use xcap_io::NoMemory;
 
 // The bytes written, at most as many as the buffer has, and how many of them the server has
 // served.
@@ -31,7 +30,7 @@ impl Model for WrittenBytes {
 
 impl WrittenBytes {
     // No bytes, and a buffer of `room` bytes.
-    pub(crate) fn new(alloc: Global, room: usize) -> Result<WrittenBytes, NoMemory>
+    pub(crate) fn new(alloc: Global, room: usize) -> Result<WrittenBytes, AllocError>
         ensures nothing_is_written { IfOk result
             (λ written. written ≡ record { bytes = []; served = 0; room = room }) }
     {

@@ -1,23 +1,26 @@
 //! The tree of a stored document, with its print where that was made (RFC 4825, section 8.3).
-ghost use Rattle.std.specs.Prelude.{◌≡◌, IfOk, OnOk, encode_utf8_all, false, true};
+ghost use Rattle.std.specs.Prelude.{◌≡◌, ◌≤◌, IfOk, OnOk, encode_utf8_all, false, true};
 ghost use Rattle.edit_ops.specs.Changes.{FitsTree, edited};
 ghost use Rattle.edit_ops.specs.StagedChanges.{IsStaged};
+ghost use Rattle.xml_names.specs.Markup.{byte_len};
+ghost use Rattle.xml_names.specs.declared.limits.TheConstants.{MAX_LEVELS};
 ghost use Rattle.xml_tree.specs.Print.{document_print};
+ghost use Rattle.xml_tree.specs.Tree.{height};
 ghost use Rattle.store_core.specs.TreeChanges.{IsUnsharedIfInPlace, IsStagedTreeFor};
 
-use crate::NoMemory;
 use crate::printed_tree::PrintedTree;
 use crate::shared_root::SharedRoot;
 use crate::staged_tree::StagedTree;
 use edit_ops::{Change, Staged};
-use std::alloc::Global;
+use std::alloc::{AllocError, Global};
 use std::marker::Model;
-use tree_print::print_document;
+use tree_print::{LentPrint, print_document};
 use xcap_io::Bytes;
 use xml_tree::Element;
 
 /// The tree of a document. Its print is cached from when the document is put as a whole, or first
-/// read, until the tree changes. Contracts see the tree, and whether nobody shares it.
+/// printed by `print`, until the tree changes; `lend` makes none. Contracts see the tree, and
+/// whether nobody shares it.
 #[derive(Drop)]
 pub struct CachedTree {
     root: SharedRoot,
@@ -63,8 +66,8 @@ impl CachedTree {
     /// Makes the tree unshared; the tree and its print are unchanged.
     ///
     /// # Errors
-    /// `NoMemory` when out of memory for the copy.
-    pub(crate) fn unshare(&mut self, alloc: Global) -> Result<(), NoMemory>
+    /// `AllocError` when out of memory for the copy.
+    pub(crate) fn unshare(&mut self, alloc: Global) -> Result<(), AllocError>
         ensures same_root { self.new.root ≡ self.old.root }
         ensures tree_unshared { OnOk result (self.new.own ≡ true) }
     {
@@ -99,8 +102,8 @@ impl CachedTree {
     /// A copy of the document's print, which is then cached, if there is memory for both.
     ///
     /// # Errors
-    /// `NoMemory` when out of memory.
-    pub(crate) fn print(&mut self, alloc: Global) -> Result<Bytes, NoMemory>
+    /// `AllocError` when out of memory.
+    pub(crate) fn print(&mut self, alloc: Global) -> Result<Bytes, AllocError>
         ensures prints_document { IfOk result
             (λ bytes. bytes ≡ encode_utf8_all (document_print self.old.root)) }
         ensures contents_unchanged { self.new ≡ self.old }
@@ -114,7 +117,20 @@ impl CachedTree {
                 self.print = Some(print);
                 Ok(copy)
             }
-            Err(NoMemory) => Ok(print),
+            Err(AllocError) => Ok(print),
+        }
+    }
+
+    /// The document's print of `len` bytes, lent: the cached one, or the tree's. Does not
+    /// allocate.
+    pub(crate) fn lend(&self, len: usize) -> LentPrint<'_>
+        requires known_length { len ≡ byte_len (document_print self.now.root) }
+        requires within_levels { height self.now.root ≤ MAX_LEVELS }
+        ensures prints_document { result ≡ encode_utf8_all (document_print self.now.root) }
+    {
+        match &self.print {
+            Some(print) => LentPrint::made(print.as_slice()),
+            None => LentPrint::document(self.root.as_element(), len),
         }
     }
 }

@@ -12,7 +12,6 @@ ghost use Rattle.store_core.specs.inner.ChangePlans.{IsPreparedEdit, IsEditStep}
 ghost use Rattle.store_core.specs.inner.Prints.{IsInsertedPrint, IsPrintOf};
 ghost use Rattle.usage_docs.specs.Services.{document_len};
 
-use crate::NoMemory;
 use crate::entry::Entry;
 use crate::prepared_change::Prepared;
 use crate::printed_tree::PrintedTree;
@@ -22,7 +21,7 @@ use crate::staged_tree::StagedTree;
 use crate::step::EntryStep;
 use doc_names::DocId;
 use edit_ops::{Change, EditNote, RecordedTree, stage};
-use std::alloc::Global;
+use std::alloc::{AllocError, Global};
 use xcap_io::Bytes;
 use xml_names::{List, Text};
 use xml_tree::Element;
@@ -48,7 +47,7 @@ fn creation_step(
     note: &EditNote,
     print: Option<Bytes>,
     len: usize,
-) -> Result<EntryStep, NoMemory>
+) -> Result<EntryStep, AllocError>
     requires brings_part { InsertsElement note.now.change }
     requires print_of_part { IsPrintOf (inserted_element note.now.change) print }
     requires length_exact { len ≡ document_len (inserted_element note.now.change) }
@@ -70,7 +69,7 @@ fn record_creation(
     root: Element,
     print: Option<Bytes>,
     len: usize,
-) -> Result<(EditNote, EntryStep), NoMemory>
+) -> Result<(EditNote, EntryStep), AllocError>
     requires print_of_part { IsPrintOf root print }
     requires length_exact { len ≡ document_len root }
     ensures creation_record { IfOk result
@@ -92,13 +91,13 @@ fn record_creation(
 /// The creation of a document, by its outline.
 ///
 /// # Errors
-/// `NoMemory` when out of memory.
+/// `AllocError` when out of memory.
 pub(crate) fn prepare_creation(
     alloc: Global,
     doc: DocId,
     root: Element,
     outline: Outline,
-) -> Result<Prepared, NoMemory>
+) -> Result<Prepared, AllocError>
     requires print_of_part { IsPrintOf root outline.put.print }
     requires length_exact { outline.len ≡ document_len root }
     ensures ok { IfOk result (λ p. p ≡ record {
@@ -138,7 +137,7 @@ pub(crate) fn prepare_creation(
 /// The removal of a document.
 ///
 /// # Errors
-/// `NoMemory` when out of memory.
+/// `AllocError` when out of memory.
 pub(crate) fn prepare_removal(
     alloc: Global,
     doc: DocId,
@@ -146,7 +145,7 @@ pub(crate) fn prepare_removal(
     number: u64,
     leaves: List<Text>,
     total: u64,
-) -> Result<Prepared, NoMemory>
+) -> Result<Prepared, AllocError>
     ensures ok { IfOk result (λ p. p ≡ record {
       doc = doc;
       note = record {
@@ -180,7 +179,7 @@ fn stage_tree(
     root: &Element,
     note: &EditNote,
     print: Option<Bytes>,
-) -> Result<StagedTree, NoMemory>
+) -> Result<StagedTree, AllocError>
     requires fits { FitsTree root.now note.now.change }
     requires print_of_part { IsInsertedPrint note.now.change print }
     ensures stages_change { IfOk result (λ made. IsStagedTreeFor root.now note.now.change made) }
@@ -202,7 +201,7 @@ fn edit_step(
     note: &EditNote,
     print: Option<Bytes>,
     len: usize,
-) -> Result<EntryStep, NoMemory>
+) -> Result<EntryStep, AllocError>
     requires fits { FitsTree root.now note.now.change }
     requires print_of_part { IsInsertedPrint note.now.change print }
     ensures stages_change { IfOk result (λ step. IsEditStep root.now note.now len step) }
@@ -220,7 +219,7 @@ fn record_edit(
     change: Change,
     put: Put,
     len: usize,
-) -> Result<(EditNote, EntryStep), NoMemory>
+) -> Result<(EditNote, EntryStep), AllocError>
     requires fits { FitsTree entry.now.tree.root change }
     requires length_of_part { put.len ≡ min (element_len change) usize.MAX }
     requires print_of_part { IsInsertedPrint change put.print }
@@ -237,14 +236,14 @@ fn record_edit(
 /// The edit of a document, by its outline.
 ///
 /// # Errors
-/// `NoMemory` when out of memory.
+/// `AllocError` when out of memory.
 pub(crate) fn prepare_edit(
     alloc: Global,
     doc: DocId,
     entry: &Entry,
     change: Change,
     outline: Outline,
-) -> Result<Prepared, NoMemory>
+) -> Result<Prepared, AllocError>
     requires fits { FitsTree entry.now.tree.root change }
     requires length_of_part { outline.put.len ≡ min (element_len change) usize.MAX }
     requires print_of_part { IsInsertedPrint change outline.put.print }

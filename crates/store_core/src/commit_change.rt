@@ -4,13 +4,13 @@ ghost use Rattle.store_core.specs.ChangePreconditions.{MayRequest};
 ghost use Rattle.store_core.specs.DocumentChanges.{change_result, contents_after};
 ghost use Rattle.store_core.specs.PreparedChanges.{IsReady, IsChangeOutcome};
 
-use crate::NoMemory;
 use crate::prepared_change::Prepared;
 use crate::refusal::StoreRefusal;
 use crate::registry::{register_addresses, release_addresses};
 use crate::store::Store;
 use doc_names::DocId;
 use edit_ops::{Change, Edit, EditNote};
+use std::alloc::AllocError;
 
 impl Store {
     /// Commits a prepared change, and returns the document's name and the change record, moved out
@@ -43,12 +43,12 @@ impl Store {
     /// If it isn't made, the store's contents are unchanged.
     ///
     /// # Errors
-    /// `NoMemory` when out of memory.
+    /// `AllocError` when out of memory.
     pub fn change(
         &mut self,
         doc: DocId,
         change: Change,
-    ) -> Result<Result<EditNote, StoreRefusal>, NoMemory>
+    ) -> Result<Result<EditNote, StoreRefusal>, AllocError>
         requires { MayRequest self.old.content doc change }
         ensures changed_or_refused { IfOk result
             (λ r. IsChangeOutcome (change_result self.old.content doc change) r self.old.content

@@ -8,8 +8,8 @@ ghost use Rattle.store_core.specs.Indexes.{AreIndexTrees, index, entry_if_listed
 ghost use Rattle.store_core.specs.inner.ServiceListing.{with_entries, index_entries};
 ghost use Rattle.store_core.specs.inner.ServiceListing.{borrowed_pairs};
 
+use crate::Store;
 use crate::step::Documents;
-use crate::{NoMemory, Store};
 use doc_names::{Auid, DocId, Home};
 use std::alloc::{AllocError, Global};
 use std::collections::BTreeMap;
@@ -76,8 +76,8 @@ impl Store {
     /// users' names by code point (RFC 4826, section 4.4.7).
     ///
     /// # Errors
-    /// `NoMemory` when out of memory.
-    pub fn user_indexes(&self, alloc: Global) -> Result<Vec<&Element>, NoMemory>
+    /// `AllocError` when out of memory.
+    pub fn user_indexes(&self, alloc: Global) -> Result<Vec<&Element>, AllocError>
         ensures index_trees { IfOk result
             (λ made. AreIndexTrees self.now.content (map (λ e. e.now) made.items)) }
         ensures within_levels { IfOk result

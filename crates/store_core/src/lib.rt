@@ -40,5 +40,4 @@ pub use limits::{MAX_DOCUMENT_BYTES, MAX_NOTES, MAX_WEIGHT};
 pub use prepared_change::Prepared;
 pub use refusal::StoreRefusal;
 pub use since::{Since, notes_since_a_version_lead_from_it};
-pub use std::alloc::AllocError as NoMemory;
 pub use store::Store;

@@ -26,7 +26,6 @@ ghost use Rattle.edit_ops.specs.Changes.{FitsTree, edited};
 ghost use Rattle.edit_ops.specs.PrintedLengths.{element_len};
 ghost use Rattle.store_core.specs.PreparedChanges.{IsReady, total_len};
 
-use crate::NoMemory;
 use crate::addresses::{added_addresses, addresses, first_added_number, removed_addresses};
 use crate::change_builder::{Outline, prepare_creation, prepare_edit, prepare_removal};
 use crate::entry::Entry;
@@ -40,6 +39,7 @@ use crate::step::{find_entry, unshare};
 use crate::store::Store;
 use doc_names::DocId;
 use edit_ops::{Change, printed_len_after};
+use std::alloc::AllocError;
 use usage_docs::{Clash, Key};
 use xml_names::{List, Text};
 use xml_tree::{Element, Path};
@@ -186,7 +186,7 @@ impl Store {
         &self,
         doc: &DocId,
         root: &Element,
-    ) -> Result<Result<Outline, StoreRefusal>, NoMemory>
+    ) -> Result<Result<Outline, StoreRefusal>, AllocError>
         requires { MayRequest self.now.content doc.now (changes.CreateDocument root.now) }
         ensures ok_outline { IfOk result
             (λ r. IfOk r (λ o. IsCreationOutline self.now.content doc.now root.now o)) }
@@ -222,7 +222,7 @@ impl Store {
         &self,
         doc: DocId,
         root: Element,
-    ) -> Result<Result<Prepared, StoreRefusal>, NoMemory>
+    ) -> Result<Result<Prepared, StoreRefusal>, AllocError>
         requires { MayRequest self.now.content doc (changes.CreateDocument root) }
         ensures plans_creation { IfOk result
             (IsPlanResult self.now.content doc (changes.CreateDocument root)) }
@@ -242,7 +242,7 @@ impl Store {
         doc: &DocId,
         entry: &Entry,
         change: &Change,
-    ) -> Result<Result<Outline, StoreRefusal>, NoMemory>
+    ) -> Result<Result<Outline, StoreRefusal>, AllocError>
         requires asks_change { MayRequest self.now.content doc.now change.now }
         requires edits_document { change_kind change.now ≡ Edits }
         requires stored_there { IsStoredAs self.now.content doc.now entry.now }
@@ -282,7 +282,7 @@ impl Store {
         &self,
         doc: DocId,
         change: Change,
-    ) -> Result<Result<Prepared, StoreRefusal>, NoMemory>
+    ) -> Result<Result<Prepared, StoreRefusal>, AllocError>
         requires asks_change { MayRequest self.now.content doc change }
         requires edits_document { change_kind change ≡ Edits }
         ensures plans_edit { IfOk result (IsPlanResult self.now.content doc change) }
@@ -298,7 +298,7 @@ impl Store {
     }
 
     // Plans the removal of a document.
-    fn plan_removal(&self, doc: DocId) -> Result<Result<Prepared, StoreRefusal>, NoMemory>
+    fn plan_removal(&self, doc: DocId) -> Result<Result<Prepared, StoreRefusal>, AllocError>
         requires { MayRequest self.now.content doc changes.RemoveDocument }
         ensures plans_removal { IfOk result
             (IsPlanResult self.now.content doc changes.RemoveDocument) }
@@ -316,7 +316,7 @@ impl Store {
     }
 
     // Plans any change.
-    fn plan(&self, doc: DocId, change: Change) -> Result<Result<Prepared, StoreRefusal>, NoMemory>
+    fn plan(&self, doc: DocId, change: Change) -> Result<Result<Prepared, StoreRefusal>, AllocError>
         requires { MayRequest self.now.content doc change }
         ensures plans_change { IfOk result (IsPlanResult self.now.content doc change) }
     {
@@ -329,7 +329,7 @@ impl Store {
 
     // Makes the tree of a document unshared, if a change is one within its root: so it can be made
     // in place.
-    fn unshare_tree_for(&mut self, doc: &DocId, change: &Change) -> Result<(), NoMemory>
+    fn unshare_tree_for(&mut self, doc: &DocId, change: &Change) -> Result<(), AllocError>
         ensures contents_unchanged { self.new.content ≡ self.old.content }
         ensures tree_unshared { OnOk result
             (edits_within_root change.now ≡ true → IsUnshared self.new.room.trees doc.now) }
@@ -342,7 +342,7 @@ impl Store {
 
     // Makes the tree of a change's document unshared, if it is made in place, and reserves the
     // memory that it needs.
-    fn reserve_memory(&mut self, prepared: &Prepared) -> Result<(), NoMemory>
+    fn reserve_memory(&mut self, prepared: &Prepared) -> Result<(), AllocError>
         ensures contents_unchanged { self.new.content ≡ self.old.content }
         ensures document_room { OnOk result (1 ≤ self.new.room.documents) }
         ensures address_room { OnOk result (length prepared.now.enters ≤ self.new.room.services) }
@@ -361,12 +361,12 @@ impl Store {
     /// since the store needs one.
     ///
     /// # Errors
-    /// `NoMemory` when out of memory.
+    /// `AllocError` when out of memory.
     pub fn prepare(
         &mut self,
         doc: DocId,
         change: Change,
-    ) -> Result<Result<Prepared, StoreRefusal>, NoMemory>
+    ) -> Result<Result<Prepared, StoreRefusal>, AllocError>
         requires { MayRequest self.old.content doc change }
         ensures contents_unchanged { self.new.content ≡ self.old.content }
         ensures prepared_change { IfOk result

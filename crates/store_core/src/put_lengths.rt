@@ -9,10 +9,9 @@ ghost use Rattle.xml_names.specs.Markup.{byte_len};
 ghost use Rattle.xml_tree.specs.Print.{print};
 ghost use Rattle.xml_tree.specs.Tree.{Tree};
 
-use crate::NoMemory;
 use crate::root_changes::edits_within_root;
 use edit_ops::{Change, element_len};
-use std::alloc::Global;
+use std::alloc::{AllocError, Global};
 use tree_print::print_document;
 use xcap_io::Bytes;
 use xml_tree::{Element, printed_len};
@@ -48,7 +47,7 @@ pub(crate) fn measure_root(alloc: Global, root: &Element) -> Put
             len: print.len() - HEAD_LEN,
             print: Some(print),
         },
-        Err(NoMemory) => Put {
+        Err(AllocError) => Put {
             len: printed_len(root),
             print: None,
         },

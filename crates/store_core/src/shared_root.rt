@@ -4,9 +4,8 @@ ghost use Rattle.edit_ops.specs.Changes.{FitsTree, edited};
 ghost use Rattle.edit_ops.specs.StagedChanges.{IsStaged};
 ghost use Rattle.store_core.specs.inner.Roots.{is_unshared, root_view};
 
-use crate::NoMemory;
 use edit_ops::{Change, RecordedTree, Staged, apply_staged};
-use std::alloc::Global;
+use std::alloc::{AllocError, Global};
 use std::mem;
 use xml_names::{LocalName, Name, Prefix};
 use xml_tree::{Element, copy_tree};
@@ -37,7 +36,7 @@ fn copy_root(alloc: Global, tree: RecordedTree) -> SharedRoot
 {
     match copy_tree(alloc, tree.root()) {
         Ok(copy) => SharedRoot::Own(copy),
-        Err(NoMemory) => SharedRoot::Noted(tree),
+        Err(AllocError) => SharedRoot::Noted(tree),
     }
 }
 
@@ -87,8 +86,8 @@ impl SharedRoot {
     /// else has that any more, else copied.
     ///
     /// # Errors
-    /// `NoMemory` when out of memory for the copy.
-    pub(crate) fn unshare(&mut self, alloc: Global) -> Result<(), NoMemory>
+    /// `AllocError` when out of memory for the copy.
+    pub(crate) fn unshare(&mut self, alloc: Global) -> Result<(), AllocError>
         ensures same_root { root_view self.new ≡ root_view self.old }
         ensures own_is_unshared { OnOk result (is_unshared self.new ≡ true) }
     {
@@ -97,7 +96,7 @@ impl SharedRoot {
         if self.is_unshared() {
             return Ok(());
         }
-        Err(NoMemory)
+        Err(AllocError)
     }
 
     /// Makes a change in place, in an unshared root. Does not allocate.

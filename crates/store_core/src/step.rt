@@ -47,7 +47,7 @@ pub(crate) fn find_entry<'a>(documents: &'a Documents, doc: &DocId) -> Option<&'
 /// Makes the tree of a document unshared, if it is stored. All documents are unchanged.
 ///
 /// # Errors
-/// `NoMemory` when out of memory.
+/// `AllocError` when out of memory.
 pub(crate) fn unshare(
     alloc: Global,
     documents: &mut Documents,

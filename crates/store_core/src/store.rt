@@ -10,7 +10,6 @@ ghost use Rattle.store_core.specs.ValidStates.{IsSoundDocumentFor, IsValidState}
 ghost use Rattle.doc_names.specs.Usages.{usage_of};
 ghost use Rattle.store_core.specs.DocumentChanges.{find_document, stored_id};
 
-use crate::NoMemory;
 use crate::registry::Registry;
 use crate::step::{Documents, find_entry};
 use doc_names::DocId;
@@ -63,7 +62,7 @@ impl Store {
     ///
     /// # Errors
     /// None: it always returns a store.
-    pub fn new(alloc: Global, first: u64) -> Result<Store, NoMemory>
+    pub fn new(alloc: Global, first: u64) -> Result<Store, AllocError>
         requires { 1 ≤ first }
         ensures begins_without_documents { IfOk result
             (λ s. s.content ≡ record { documents = []; next = first }) }

@@ -212,7 +212,7 @@ fn push_element(out: &mut Output, element: &Element) -> Result<(), AllocError>
 /// The print of an element: one of the texts that are read as it.
 ///
 /// # Errors
-/// `NoMemory` when out of memory.
+/// `AllocError` when out of memory.
 pub fn print_element(alloc: Global, element: &Element) -> Result<Bytes, AllocError>
     ensures ok { IfOk result (λ bytes. bytes ≡ encode_utf8_all (print element.now)) }
 {
@@ -234,7 +234,7 @@ fn push_header(out: &mut Output) -> Result<(), AllocError>
 /// element.
 ///
 /// # Errors
-/// `NoMemory` when out of memory.
+/// `AllocError` when out of memory.
 pub fn print_document(alloc: Global, root: &Element) -> Result<Bytes, AllocError>
     ensures prints_document { IfOk result
         (λ bytes. bytes ≡ encode_utf8_all (document_print root.now)) }
@@ -248,7 +248,7 @@ pub fn print_document(alloc: Global, root: &Element) -> Result<Bytes, AllocError
 /// The print of an attribute body that spells this value.
 ///
 /// # Errors
-/// `NoMemory` when out of memory.
+/// `AllocError` when out of memory.
 pub fn print_att_value(alloc: Global, value: &str) -> Result<Bytes, AllocError>
     ensures ok { IfOk result (λ bytes. bytes ≡ encode_utf8_all (body_print (chars value.now))) }
 {

@@ -118,16 +118,16 @@ fn unquoted_body(body: &str) -> (&str, usize)
     }
 }
 
-/// The error for a stop in a body of these bytes, whose spelling is followed by `behind` bytes.
-fn error(bytes: &[u8], stop: ParseError<'_>, behind: usize) -> ReadError<ValueFault>
-    ensures body_fault { IsBodyErrorOfStop bytes.now behind stop.entry result }
+/// The error for a stop in a body of these bytes, whose spelling is followed by `tail` bytes.
+fn error(bytes: &[u8], stop: ParseError<'_>, tail: usize) -> ReadError<ValueFault>
+    ensures body_fault { IsBodyErrorOfStop bytes.now tail stop.entry result }
 {
     match stop {
         ParseError::Syntax(rest) => {
-            ReadError::Fault(ValueFault::NotValue(rest_offset(bytes, rest).saturating_sub(behind)))
+            ReadError::Fault(ValueFault::NotValue(rest_offset(bytes, rest).saturating_sub(tail)))
         }
         ParseError::Faulty(_, rest) => {
-            ReadError::Fault(ValueFault::NotValue(rest_offset(bytes, rest).saturating_sub(behind)))
+            ReadError::Fault(ValueFault::NotValue(rest_offset(bytes, rest).saturating_sub(tail)))
         }
         ParseError::Memory => ReadError::NoMemory,
     }
@@ -153,9 +153,9 @@ fn read_body(alloc: Global, bytes: &[u8]) -> Result<Text, ReadError<ValueFault>>
     let Ok(text) = str::from_utf8(bytes) else {
         return Err(ReadError::Fault(ValueFault::NotUtf8));
     };
-    let (part, behind) = unquoted_body(text);
+    let (part, tail) = unquoted_body(text);
     match whole_unquoted_value(alloc, part) {
         Ok(value) => Ok(value),
-        Err(stop) => Err(error(bytes, stop, behind)),
+        Err(stop) => Err(error(bytes, stop, tail)),
     }
 }

@@ -50,21 +50,21 @@ fn check_tag_names<'a>(
         ≡ Ok (
           tag_view
               (chars text.now) start_tag.now raw_attribute.now,
-          chars start_tag.now.behind.now,
+          chars start_tag.now.after.now,
         ) }
     ensures judged_names { IsSameResult
         (λ _.
-        (tag_view (chars text.now) start_tag.now raw_attribute.now, chars start_tag.now.behind.now))
+        (tag_view (chars text.now) start_tag.now raw_attribute.now, chars start_tag.now.after.now))
         result
         (value_or_fault (chars text.now)
-        (tag_view (chars text.now) start_tag.now raw_attribute.now, chars start_tag.now.behind.now)
+        (tag_view (chars text.now) start_tag.now raw_attribute.now, chars start_tag.now.after.now)
         (counted_from_end (tag_view (chars text.now) start_tag.now raw_attribute.now).size
         (first_tag_fault (lists here.now)
         (tag_view (chars text.now) start_tag.now raw_attribute.now)))) }
 {
     if let Some((kind, at)) = first_tag_fault(alloc, here, name, raw_attribute, start_tag)? {
-        let size = count(text).saturating_sub(count(start_tag.behind));
-        let place = rest_before(text, start_tag.behind, size.saturating_sub(at));
+        let size = count(text).saturating_sub(count(start_tag.after));
+        let place = rest_before(text, start_tag.after, size.saturating_sub(at));
         return Err(ParseError::Faulty(kind, place));
     }
     Ok(())
@@ -392,15 +392,15 @@ fn element_rest<'a>(
     ensures reads_rule { IsSameResult (λ rest. (element.new, chars rest.now)) result
         (read_tree_after_tag element.old (read_element levels (lists bindings.old) depth)
         (raw_name_view start_tag.now.written) start_tag.now.is_empty
-        (chars start_tag.now.behind.now)) }
+        (chars start_tag.now.after.now)) }
     ensures bindings_restored { OnOk result (HasSameOpenElements bindings.old bindings.new) }
 {
     if start_tag.is_empty {
-        return Ok(start_tag.behind);
+        return Ok(start_tag.after);
     }
     let rest = content(
         alloc,
-        start_tag.behind,
+        start_tag.after,
         bindings,
         depth,
         levels,
@@ -430,7 +430,7 @@ fn fill_element<'a>(
     requires tag_read { read_tag (chars text.now)
         ≡ Ok (
           tag_view (chars text.now) start_tag.now raw_attribute.old.items,
-          chars start_tag.now.behind.now,
+          chars start_tag.now.after.now,
         ) }
     requires bare { element.old ≡ tree_of (raw_name_view start_tag.now.written) [] [] (last []) }
     ensures reads_rule { IsSameResult (λ rest. (element.new, chars rest.now)) result

@@ -33,7 +33,7 @@ pub struct RawStartTag<'a> {
     pub written: RawName<'a>,
     pub is_empty: bool,
     /// What follows it.
-    pub behind: &'a str,
+    pub after: &'a str,
 }
 
 /// A value in quotes, and what follows it.
@@ -170,8 +170,8 @@ fn tag_rest(text: &str) -> Result<(bool, &str), ParseError<'_>>
     ensures reads_rule { IsSameResult (λ x. (x.0, chars x.1.now)) result
         (read_tag_end (drop_while is_space (chars text.now))) }
 {
-    if let Some(behind) = strip_char(text, '>') {
-        return Ok((false, behind));
+    if let Some(after) = strip_char(text, '>') {
+        return Ok((false, after));
     }
     let (_, rest) = spaces(text);
     tag_end(rest)
@@ -185,18 +185,18 @@ pub fn read_whole_tag<'a>(
     raw_attribute: &mut Vec<RawAttribute<'a>>,
 ) -> Result<RawStartTag<'a>, ParseError<'a>>
     ensures reads_rule { IsSameResult
-        (λ x. (tag_view (chars text.now) x raw_attribute.new.items, chars x.behind.now)) result
+        (λ x. (tag_view (chars text.now) x raw_attribute.new.items, chars x.after.now)) result
         (read_tag (chars text.now)) }
     ensures unprefixed_in_front { IfOk result BeginsWithLocal }
 {
     let from = ascii_letter(text, '<')?;
     let (written, rest) = common_qname(from)?;
     let rest = all_raw_attributes(alloc, rest, raw_attribute)?;
-    let (is_empty, behind) = tag_rest(rest)?;
+    let (is_empty, after) = tag_rest(rest)?;
     Ok(RawStartTag {
         from,
         written,
         is_empty,
-        behind,
+        after,
     })
 }

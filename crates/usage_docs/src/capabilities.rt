@@ -9,12 +9,11 @@ ghost use Rattle.usage_docs.specs.Capabilities.{capabilities};
 ghost use Rattle.usage_docs.specs.Capabilities.{capabilities_text};
 
 use crate::element_maker::{declaration, name};
-use std::alloc::Global;
-use xml_names::NoMemory;
+use std::alloc::{AllocError, Global};
 use xml_tree::Element;
 
 // An element of this name without content.
-fn empty_element(alloc: Global, local: &str) -> Result<Element, NoMemory>
+fn empty_element(alloc: Global, local: &str) -> Result<Element, AllocError>
     requires { IsTrue (is_ascii local.now) }
     ensures named_alone { IfOk result
         (λ made. made ≡ element_around local.now (content_of_children [])) }
@@ -24,7 +23,7 @@ fn empty_element(alloc: Global, local: &str) -> Result<Element, NoMemory>
 
 // An element of this name, with this text.
 #[tactic(auto, using(crate::proofs::Words::chars_ascii))]
-fn text_element(alloc: Global, local: &str, text: &str) -> Result<Element, NoMemory>
+fn text_element(alloc: Global, local: &str, text: &str) -> Result<Element, AllocError>
     requires ascii_local { IsTrue (is_ascii local.now) }
     requires ascii_text { IsTrue (is_ascii text.now) }
     ensures ok { IfOk result (λ made. made ≡ element_around local.now (last text.now)) }
@@ -40,7 +39,7 @@ fn push_text_element(
     made: &mut Element,
     local: &str,
     text: &str,
-) -> Result<(), NoMemory>
+) -> Result<(), AllocError>
     requires ascii_local { IsTrue (is_ascii local.now) }
     requires ascii_text { IsTrue (is_ascii text.now) }
     ensures ok { OnOk result
@@ -53,7 +52,7 @@ fn push_text_element(
 }
 
 // Appends the application usages to an element without nodes.
-fn push_auids(alloc: Global, made: &mut Element) -> Result<(), NoMemory>
+fn push_auids(alloc: Global, made: &mut Element) -> Result<(), AllocError>
     requires { made.old.content ≡ content_of_children [] }
     ensures ok { OnOk result (made.new ≡ record made.old { content = auids_element.content }) }
 {
@@ -63,7 +62,7 @@ fn push_auids(alloc: Global, made: &mut Element) -> Result<(), NoMemory>
 }
 
 // The application usages.
-fn auids_element(alloc: Global) -> Result<Element, NoMemory>
+fn auids_element(alloc: Global) -> Result<Element, AllocError>
     ensures ok { IfOk result (λ made. made ≡ auids_element) }
 {
     let mut made = empty_element(alloc, "auids")?;
@@ -72,7 +71,7 @@ fn auids_element(alloc: Global) -> Result<Element, NoMemory>
 }
 
 // Appends the namespaces to an element without nodes.
-fn push_namespaces(alloc: Global, made: &mut Element) -> Result<(), NoMemory>
+fn push_namespaces(alloc: Global, made: &mut Element) -> Result<(), AllocError>
     requires { made.old.content ≡ content_of_children [] }
     ensures ok { OnOk result (made.new ≡ record made.old { content = namespaces_element.content }) }
 {
@@ -85,7 +84,7 @@ fn push_namespaces(alloc: Global, made: &mut Element) -> Result<(), NoMemory>
 }
 
 // The element that lists the namespaces that the server knows.
-fn namespaces_element(alloc: Global) -> Result<Element, NoMemory>
+fn namespaces_element(alloc: Global) -> Result<Element, AllocError>
     ensures ok { IfOk result (λ made. made ≡ namespaces_element) }
 {
     let mut made = empty_element(alloc, "namespaces")?;
@@ -94,7 +93,7 @@ fn namespaces_element(alloc: Global) -> Result<Element, NoMemory>
 }
 
 // Appends the parts of the document.
-fn push_parts(alloc: Global, made: &mut Element) -> Result<(), NoMemory>
+fn push_parts(alloc: Global, made: &mut Element) -> Result<(), AllocError>
     ensures ok { OnOk result
         (made.new ≡ record made.old {
           content =
@@ -109,7 +108,7 @@ fn push_parts(alloc: Global, made: &mut Element) -> Result<(), NoMemory>
 }
 
 // The document.
-fn capabilities(alloc: Global) -> Result<Element, NoMemory>
+fn capabilities(alloc: Global) -> Result<Element, AllocError>
     ensures ok { IfOk result (λ made. made ≡ capabilities) }
 {
     let mut made = empty_element(alloc, "xcap-caps")?;
@@ -121,8 +120,8 @@ fn capabilities(alloc: Global) -> Result<Element, NoMemory>
 /// The document xcap-caps/global/index.
 ///
 /// # Errors
-/// `NoMemory` when out of memory.
-pub fn capabilities_document(alloc: Global) -> Result<Element, NoMemory>
+/// `AllocError` when out of memory.
+pub fn capabilities_document(alloc: Global) -> Result<Element, AllocError>
     ensures makes_document { IfOk result (λ root. root ≡ capabilities) }
     ensures prints_text { IfOk result (λ root. print root ≡ capabilities_text) }
 {

@@ -10,7 +10,8 @@ ghost use Rattle.usage_docs.specs.readers.KeyRepeats.{sibling_key_by_attrs};
 
 use crate::attributes::{key_of, key_text};
 use crate::schema_table::{ElementKind, Key};
-use xml_names::{Attr, NoMemory, Text};
+use std::alloc::AllocError;
+use xml_names::{Attr, Text};
 use xml_tree::Path;
 
 /// An element whose key equals the key of an earlier sibling of its kind.
@@ -44,13 +45,13 @@ pub(crate) struct KeyRepeat {
 /// if it has one.
 ///
 /// # Errors
-/// `NoMemory` when out of memory.
+/// `AllocError` when out of memory.
 pub(crate) fn enter_key<'a>(
     seen: &mut Vec<KeyedChild<'a>>,
     kind: Option<ElementKind>,
     attrs: &'a [Attr],
     child: usize,
-) -> Result<(), NoMemory>
+) -> Result<(), AllocError>
     ensures enters_key { OnOk result
         (EntersKey (sibling_key_by_attrs kind attrs.now) child seen.old.items seen.new.items) }
 {

@@ -8,10 +8,10 @@ ghost use Rattle.usage_docs.specs.inner.ServiceIndexes.{index_len_with};
 use crate::element_maker::{declaration, name};
 use crate::schema_table::{ElementKind, kind_of, services_namespace};
 use crate::service_lengths::listed_len;
-use std::alloc::Global;
+use std::alloc::{AllocError, Global};
 use std::marker::Model;
 use thiserror::Error;
-use xml_names::{Decl, IndexedDecls, NoMemory, ReadError};
+use xml_names::{Decl, IndexedDecls, ReadError};
 use xml_tree::{Element, LinkedScope, Node, Scope, copy_tree};
 
 /// Why a document's services can't be added to an index.
@@ -72,7 +72,7 @@ pub(crate) fn listed_service(
     alloc: Global,
     decls: &[Decl],
     child_element: &Element,
-) -> Result<Element, NoMemory>
+) -> Result<Element, AllocError>
     ensures ok { IfOk result (λ made. made ≡ listed_service (decls.now ∷ []) child_element.now) }
 {
     let scope = Scope::empty().with(decls);
@@ -90,7 +90,7 @@ fn push_listed(
     scope: &LinkedScope<'_>,
     node: &Node,
     made: &mut Vec<Node>,
-) -> Result<(), NoMemory>
+) -> Result<(), AllocError>
     requires { scope.now ≡ decls.now ∷ [] }
     ensures appended { OnOk result
         (made.new.items ≡ made.old.items ++ listed_nodes scope.now (node.now ∷ [])) }
@@ -108,7 +108,7 @@ fn service_nodes(
     alloc: Global,
     scope: &LinkedScope<'_>,
     root: &Element,
-) -> Result<Vec<Node>, NoMemory>
+) -> Result<Vec<Node>, AllocError>
     requires { scope.now ≡ root.now.decls ∷ [] }
     ensures ok { IfOk result (λ made. made.items ≡ map Elem (service_elements root.now)) }
 {
@@ -120,7 +120,7 @@ fn service_nodes(
 }
 
 // The services of a document, as the index lists them.
-fn service_elements(alloc: Global, root: &Element) -> Result<Vec<Node>, NoMemory>
+fn service_elements(alloc: Global, root: &Element) -> Result<Vec<Node>, AllocError>
     ensures ok { IfOk result (λ made. made.items ≡ map Elem (service_elements root.now)) }
 {
     let declared = IndexedDecls::with_index(alloc, root.decls())?;
@@ -148,8 +148,8 @@ impl IndexBuilder {
     /// An index without services.
     ///
     /// # Errors
-    /// `NoMemory` when out of memory.
-    pub fn new(alloc: Global) -> Result<IndexBuilder, NoMemory>
+    /// `AllocError` when out of memory.
+    pub fn new(alloc: Global) -> Result<IndexBuilder, AllocError>
         ensures ok { IfOk result (λ made. made ≡ []) }
     {
         let root = empty_index(alloc)?;
@@ -198,7 +198,7 @@ impl IndexBuilder {
 
 // The index without services.
 #[tactic(auto, unfolding(crate::specs::Services::index_name, crate::specs::Services::index_decls))]
-fn empty_index(alloc: Global) -> Result<Element, NoMemory>
+fn empty_index(alloc: Global) -> Result<Element, AllocError>
     ensures ok { IfOk result (λ made. made ≡ index_of []) }
 {
     let mut root = Element::new(alloc, name(alloc, "rls", "rls-services")?);

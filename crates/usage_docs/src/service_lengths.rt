@@ -10,9 +10,9 @@ ghost use Rattle.usage_docs.specs.readers.ServiceLengths.{CountsBindings, bindin
 ghost use Rattle.usage_docs.specs.readers.ServiceLengths.{decls_len, hidden_bindings};
 
 use crate::service_index::{is_service, listed_service};
-use std::alloc::Global;
+use std::alloc::{AllocError, Global};
 use std::collections::BTreeSet;
-use xml_names::{Decl, IndexedDecls, NoMemory, Prefix, decl_len, decls_len};
+use xml_names::{Decl, IndexedDecls, Prefix, decl_len, decls_len};
 use xml_tree::{Element, LinkedScope, Node, Scope, printed_len};
 
 /// The root of a document whose services are counted.
@@ -28,7 +28,7 @@ struct Outer<'a> {
 
 impl<'a> Outer<'a> {
     // The root with these declarations, for counting its services.
-    fn new(alloc: Global, decls: &'a [Decl]) -> Result<Outer<'a>, NoMemory>
+    fn new(alloc: Global, decls: &'a [Decl]) -> Result<Outer<'a>, AllocError>
         ensures counts_from { IfOk result CountsBindings }
         ensures given_decls { IfOk result (λ made. made.decls.now ≡ decls.now) }
     {
@@ -56,7 +56,7 @@ fn binding_len(bindings: &[Decl], prefix: &Prefix) -> usize
 
 // The printed length of the bindings whose prefixes these declarations redeclare. Each prefix is
 // looked up once.
-fn hidden_len(alloc: Global, bindings: &[Decl], own: &[Decl]) -> Result<usize, NoMemory>
+fn hidden_len(alloc: Global, bindings: &[Decl], own: &[Decl]) -> Result<usize, AllocError>
     requires { AreSortedByPrefix bindings.now }
     ensures ok { IfOk result
         (λ len. len ≡ min (decls_len (hidden_bindings own.now bindings.now)) usize.MAX) }
@@ -72,7 +72,7 @@ fn hidden_len(alloc: Global, bindings: &[Decl], own: &[Decl]) -> Result<usize, N
 }
 
 // The printed length of all that these declarations bind.
-fn bindings_len(alloc: Global, own: &[Decl]) -> Result<usize, NoMemory>
+fn bindings_len(alloc: Global, own: &[Decl]) -> Result<usize, AllocError>
     ensures ok { IfOk result
         (λ len. len ≡ min (decls_len (in_scope_bindings (own.now ∷ []))) usize.MAX) }
 {
@@ -85,7 +85,7 @@ fn built_service_len(
     alloc: Global,
     outer: &Outer<'_>,
     child_element: &Element,
-) -> Result<usize, NoMemory>
+) -> Result<usize, AllocError>
     ensures ok { IfOk result
         (λ len. len ≡ min (byte_len
         (print (listed_service (outer.now.decls.now ∷ []) child_element.now))) usize.MAX) }
@@ -96,7 +96,11 @@ fn built_service_len(
 
 // The printed length of a service as the index lists it: the root's bindings are added, the ones
 // that the service hides are subtracted, and its own bindings replace its declarations.
-fn service_len(alloc: Global, outer: &Outer<'_>, child_element: &Element) -> Result<usize, NoMemory>
+fn service_len(
+    alloc: Global,
+    outer: &Outer<'_>,
+    child_element: &Element,
+) -> Result<usize, AllocError>
     requires { CountsBindings outer.now }
     ensures ok { IfOk result
         (λ len. len ≡ min (byte_len
@@ -122,7 +126,7 @@ fn node_len(
     scope: &LinkedScope<'_>,
     outer: &Outer<'_>,
     node: &Node,
-) -> Result<usize, NoMemory>
+) -> Result<usize, AllocError>
     requires counts_from { CountsBindings outer.now }
     requires scope_is_outer { scope.now ≡ outer.now.decls.now ∷ [] }
     ensures ok { IfOk result
@@ -142,7 +146,7 @@ fn nodes_len(
     scope: &LinkedScope<'_>,
     outer: &Outer<'_>,
     root: &Element,
-) -> Result<usize, NoMemory>
+) -> Result<usize, AllocError>
     requires counts_from { CountsBindings outer.now }
     requires same_declarations { outer.now.decls.now ≡ root.now.decls }
     requires scope_is_outer { scope.now ≡ outer.now.decls.now ∷ [] }
@@ -160,8 +164,8 @@ fn nodes_len(
 /// longer. What all services have in common is counted once.
 ///
 /// # Errors
-/// `NoMemory` when out of memory.
-pub(crate) fn listed_len(alloc: Global, root: &Element) -> Result<usize, NoMemory>
+/// `AllocError` when out of memory.
+pub(crate) fn listed_len(alloc: Global, root: &Element) -> Result<usize, AllocError>
     ensures ok { IfOk result (λ len.
         len ≡ min (elems_len (map Elem (service_elements root.now))) usize.MAX) }
 {

@@ -20,6 +20,5 @@ pub use audit::Audit;
 pub use mirror::Mirror;
 pub use notify_all::tell_all;
 pub use recorder::Recorder;
-pub use std::alloc::AllocError as NoMemory;
 pub use watcher::{Told, Watcher};
 pub use watchers::Watchers;

@@ -241,7 +241,7 @@ fn parse_five_words(
 /// The command that words spell, if they spell one.
 ///
 /// # Errors
-/// `NoMemory` when out of memory.
+/// `AllocError` when out of memory.
 pub(crate) fn parse_command(alloc: Global, words: &[String]) -> Result<Option<Command>, AllocError>
     ensures ok { IfOk result (λ command. command ≡ parse_command (map string_bytes words.now)) }
 {

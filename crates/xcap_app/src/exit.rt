@@ -73,7 +73,7 @@ impl Exit {
     /// The message on the stream for errors.
     ///
     /// # Errors
-    /// `NoMemory` when out of memory; only the messages of a refusal and of a call that failed
+    /// `AllocError` when out of memory; only the messages of a refusal and of a call that failed
     /// allocate.
     #[tactic(auto, unfolding(crate::specs::Exits::usage_line))]
     pub(crate) fn words(&self, alloc: Global) -> Result<Message, AllocError>

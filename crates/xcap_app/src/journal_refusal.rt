@@ -19,7 +19,7 @@ impl JournalRefusal {
     /// The message about it.
     ///
     /// # Errors
-    /// `NoMemory` when out of memory.
+    /// `AllocError` when out of memory.
     pub(crate) fn words(&self, alloc: Global) -> Result<String, AllocError>
         ensures ok { IfOk result (λ words. string_bytes words ≡ journal_message self.now) }
     {

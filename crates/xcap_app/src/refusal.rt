@@ -51,7 +51,7 @@ impl Refusal {
     /// The message about it.
     ///
     /// # Errors
-    /// `NoMemory` when out of memory.
+    /// `AllocError` when out of memory.
     pub(crate) fn words(&self, alloc: Global) -> Result<String, AllocError>
         ensures ok { IfOk result (λ words. string_bytes words ≡ refusal_message self.now) }
     {

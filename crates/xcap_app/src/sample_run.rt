@@ -60,7 +60,7 @@ fn run_connections(
 /// first request.
 ///
 /// # Errors
-/// `NoMemory` when out of memory before the first request.
+/// `AllocError` when out of memory before the first request.
 pub(crate) fn run_sample(alloc: Global, requests: u32) -> Result<Summary, AllocError>
     ensures sample_summary { IfOk result (λ summary. MakesSample requests summary) }
 {

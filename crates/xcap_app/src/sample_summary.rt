@@ -49,7 +49,7 @@ impl Summary {
     /// The summary as seven lines, each a word, a space and a number.
     ///
     /// # Errors
-    /// `NoMemory` when out of memory.
+    /// `AllocError` when out of memory.
     pub fn text(&self, alloc: Global) -> Result<String, AllocError>
         ensures ok { IfOk result (λ text. string_bytes text ≡ summary_text self.now) }
     {

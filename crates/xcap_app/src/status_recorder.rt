@@ -7,7 +7,7 @@ ghost use Rattle.xcap_app.specs.inner.RecorderSteps.{new_recorder_state};
 use crate::sample_summary::Summary;
 use edit_ops::Edit;
 use http_serve::{Machine, MachineReply};
-use http_wire::Request;
+use http_wire::{LentReply, Request};
 use std::alloc::{AllocError, Global};
 use std::marker::Model;
 use xcap_server::{Server, answer};
@@ -113,6 +113,14 @@ impl Machine for StatusRecorder {
     ghost steps = { AnswersRecording };
 
     ghost takes = { HasRoomForStatuses };
+
+    // Lends nothing, so that each status is recorded.
+    fn answer_reading<'a>(
+        &'a self,
+        _request: &Request,
+    ) -> Result<Option<LentReply<'a>>, AllocError> {
+        Ok(None)
+    }
 
     fn answer(&mut self, request: &Request) -> Result<MachineReply<Edit>, AllocError> {
         let answered = answer(&mut self.server, request)?;

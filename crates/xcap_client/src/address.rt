@@ -2,8 +2,7 @@
 ghost use Rattle.std.specs.Prelude.{◌≡◌, IfOk};
 ghost use Rattle.xcap_client.specs.ServerAddresses.{has_port, address_of};
 
-use std::alloc::Global;
-use xcap_io::NoMemory;
+use std::alloc::{AllocError, Global};
 use xcap_uri::Root;
 use xml_names::Text;
 
@@ -25,7 +24,7 @@ fn has_port(authority: &[u8]) -> bool
 }
 
 // The authority of the root, with the port of HTTP where the root has none.
-pub fn address_of(alloc: Global, root: &Root) -> Result<Text, NoMemory>
+pub fn address_of(alloc: Global, root: &Root) -> Result<Text, AllocError>
     ensures ok { IfOk result (λ address. address ≡ address_of root.now) }
 {
     let mut address = Text::from(alloc, root.authority())?;

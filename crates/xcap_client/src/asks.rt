@@ -4,15 +4,15 @@ ghost use Rattle.xcap_client.specs.Requests.{IsLawfulAsk};
 ghost use Rattle.xcap_client.specs.Asks.{bodiless_ask, get_ask, delete_ask, put_ask};
 
 use crate::Ask;
-use std::alloc::Global;
-use xcap_io::{Bytes, NoMemory};
+use std::alloc::{AllocError, Global};
+use xcap_io::Bytes;
 use xml_names::Text;
 
 /// A copy of a user's name.
 ///
 /// # Errors
-/// `NoMemory` when out of memory.
-pub fn copy_user(alloc: Global, user: Option<&str>) -> Result<Option<Text>, NoMemory>
+/// `AllocError` when out of memory.
+pub fn copy_user(alloc: Global, user: Option<&str>) -> Result<Option<Text>, AllocError>
     ensures ok { IfOk result (λ copy. copy ≡ option_map (λ name. chars name.now) user.entry) }
 {
     match user {
@@ -27,7 +27,7 @@ fn bodiless_ask(
     method: &str,
     user: Option<&str>,
     path: &str,
-) -> Result<Ask, NoMemory>
+) -> Result<Ask, AllocError>
     ensures ok { IfOk result
         (λ ask. ask
         ≡ bodiless_ask (chars method.now) (option_map (λ name. chars name.now) user.entry)
@@ -42,7 +42,7 @@ fn bodiless_ask(
     })
 }
 
-pub fn get_ask(alloc: Global, user: Option<&str>, path: &str) -> Result<Ask, NoMemory>
+pub fn get_ask(alloc: Global, user: Option<&str>, path: &str) -> Result<Ask, AllocError>
     ensures ok { IfOk result
         (λ ask. ask ≡ get_ask (option_map (λ name. chars name.now) user.entry) (chars path.now)) }
     ensures lawful_ask { IfOk result IsLawfulAsk }
@@ -50,7 +50,7 @@ pub fn get_ask(alloc: Global, user: Option<&str>, path: &str) -> Result<Ask, NoM
     bodiless_ask(alloc, "GET", user, path)
 }
 
-pub fn delete_ask(alloc: Global, user: Option<&str>, path: &str) -> Result<Ask, NoMemory>
+pub fn delete_ask(alloc: Global, user: Option<&str>, path: &str) -> Result<Ask, AllocError>
     ensures ok { IfOk result
         (λ ask. ask
         ≡ delete_ask (option_map (λ name. chars name.now) user.entry) (chars path.now)) }
@@ -65,7 +65,7 @@ pub fn put_ask(
     path: &str,
     media: &str,
     body: &[u8],
-) -> Result<Ask, NoMemory>
+) -> Result<Ask, AllocError>
     ensures ok { IfOk result
         (λ ask. ask ≡ put_ask (option_map (λ name. chars name.now) user.entry) (chars path.now)
         (chars media.now) body.now) }

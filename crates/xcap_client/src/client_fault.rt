@@ -4,8 +4,9 @@ ghost use Rattle.xcap_client.specs.declared.client_fault.ClientFault.TheVariants
 ghost use Rattle.xcap_client.specs.Exchanges.{exchange_fault};
 
 use crate::ResponseFault;
+use std::alloc::AllocError;
 use thiserror::Error;
-use xcap_io::{Failed, NoMemory};
+use xcap_io::Failed;
 use xml_names::Text;
 
 /// Why a call gave no response.
@@ -26,10 +27,10 @@ pub enum ClientFault {
     NoMemory,
 }
 
-impl From<NoMemory> for ClientFault {
+impl From<AllocError> for ClientFault {
     ghost from_gives = { λ _ fault. fault ≡ faults.NoMemory };
 
-    fn from(_error: NoMemory) -> Self {
+    fn from(_error: AllocError) -> Self {
         ClientFault::NoMemory
     }
 }

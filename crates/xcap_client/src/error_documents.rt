@@ -5,9 +5,8 @@ ghost use Rattle.xml_names.specs.Scopes.{bound_uri};
 ghost use Rattle.xcap_client.specs.ErrorDocuments.{NamesError, error_name_of, error_uri};
 ghost use Rattle.xcap_client.specs.ErrorDocuments.{is_error_document};
 
-use std::alloc::Global;
+use std::alloc::{AllocError, Global};
 use tree_text::read_document;
-use xcap_io::NoMemory;
 use xml_names::{MAX_LEVELS, ReadError, Text};
 use xml_tree::{Element, Scope};
 
@@ -37,7 +36,7 @@ fn is_error_document(root: &Element) -> bool
 }
 
 // The error that a document names, if it is an error document.
-fn error_name_in(alloc: Global, root: &Element) -> Result<Option<Text>, NoMemory>
+fn error_name_in(alloc: Global, root: &Element) -> Result<Option<Text>, AllocError>
     ensures ok { IfOk result (λ name. name ≡ error_name_of (Ok root.now)) }
 {
     if !is_error_document(root) {
@@ -53,12 +52,12 @@ fn error_name_in(alloc: Global, root: &Element) -> Result<Option<Text>, NoMemory
 }
 
 // The error that the body of a response names, if it is an error document.
-pub fn error_name_of(alloc: Global, body: &[u8]) -> Result<Option<Text>, NoMemory>
+pub fn error_name_of(alloc: Global, body: &[u8]) -> Result<Option<Text>, AllocError>
     ensures names_error { IfOk result (NamesError body.now) }
 {
     match read_document(alloc, body, MAX_LEVELS) {
         Ok(root) => error_name_in(alloc, &root),
         Err(ReadError::Fault(_)) => Ok(None),
-        Err(ReadError::NoMemory) => Err(NoMemory),
+        Err(ReadError::NoMemory) => Err(AllocError),
     }
 }

@@ -10,9 +10,8 @@ ghost use Rattle.xcap_client.specs.inner.QuotedTags.{IsQuotedTag};
 use http_wire::{FieldLookup, find_field};
 use httparse::spans::HeaderSpan;
 use request_checks::is_tag_byte;
-use std::alloc::Global;
+use std::alloc::{AllocError, Global};
 use std::str::from_utf8;
-use xcap_io::NoMemory;
 use xml_names::Text;
 
 fn are_tag_bytes(bytes: &[u8]) -> bool
@@ -58,7 +57,11 @@ fn opaque_tag(value: &[u8]) -> Option<&[u8]>
 }
 
 // The entity tag of the fields, if they have one.
-pub fn read_tag(alloc: Global, buf: &[u8], headers: &[HeaderSpan]) -> Result<Option<Text>, NoMemory>
+pub fn read_tag(
+    alloc: Global,
+    buf: &[u8],
+    headers: &[HeaderSpan],
+) -> Result<Option<Text>, AllocError>
     requires { All (IsHeaderWithin (length buf.now)) headers.now }
     ensures tag_or_none { IfOk result (IsTagOf (map (header_bytes buf.now) headers.now)) }
 {

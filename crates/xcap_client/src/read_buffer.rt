@@ -6,9 +6,9 @@ ghost use Rattle.http_wire.specs.inner.ReadBuffer.{BuffersEnoughOrEnds};
 ghost use Rattle.xcap_client.specs.inner.FillErrors.{CountsFillError};
 
 use crate::response_fault::FillError;
-use std::alloc::Global;
+use std::alloc::{AllocError, Global};
 use std::marker::Model;
-use xcap_io::{Bytes, Failed, Line, NoMemory, Source};
+use xcap_io::{Bytes, Failed, Line, Source};
 
 // The least number of bytes by which the buffer grows.
 const ROOM: usize = 8192;
@@ -31,7 +31,7 @@ impl Model for ReadBuffer {
 }
 
 // Grows the buffer where it is full.
-fn make_room(buffer: &mut Vec<u8>, held: usize) -> Result<(), NoMemory>
+fn make_room(buffer: &mut Vec<u8>, held: usize) -> Result<(), AllocError>
     requires { held ≤ length buffer.old.items }
     ensures at_least_held { held ≤ length buffer.new.items }
     ensures keeps_held { take held buffer.new.items ≡ take held buffer.old.items }

@@ -4,8 +4,8 @@ ghost use Rattle.xcap_client.specs.declared.response_fault.FillError.TheVariants
 ghost use Rattle.xcap_client.specs.declared.response_fault.ResponseFault.TheVariants as faults;
 ghost use Rattle.xcap_client.specs.ReadFaults.{response_fault_of};
 
+use std::alloc::AllocError;
 use thiserror::Error;
-use xcap_io::NoMemory;
 
 /// Why there is no response.
 #[derive(Clone, Copy, Debug, Drop, PartialEq, Eq, Error)]
@@ -41,18 +41,18 @@ pub(crate) enum FillError {
     NoMemory,
 }
 
-impl From<NoMemory> for FillError {
+impl From<AllocError> for FillError {
     ghost from_gives = { λ _ stop. stop ≡ stops.NoMemory };
 
-    fn from(_error: NoMemory) -> Self {
+    fn from(_error: AllocError) -> Self {
         FillError::NoMemory
     }
 }
 
-impl From<NoMemory> for ResponseFault {
+impl From<AllocError> for ResponseFault {
     ghost from_gives = { λ _ fault. fault ≡ faults.NoMemory };
 
-    fn from(_error: NoMemory) -> Self {
+    fn from(_error: AllocError) -> Self {
         ResponseFault::NoMemory
     }
 }

@@ -5,3 +5,4 @@ pub mod HeldOnes
 pub mod IndexResources
 pub mod IndexSteps
 pub mod Lengths
+pub mod LentReplyLemmas

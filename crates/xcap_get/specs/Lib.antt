@@ -1,1 +1,2 @@
+pub mod LentReplies
 pub mod inner

@@ -9,7 +9,6 @@ ghost use Rattle.xcap_machine.specs.Resources.{IsResourceOf, IsGlobalResource, a
 ghost use Rattle.xcap_machine.specs.Resources.{version_of};
 ghost use Rattle.xcap_get.specs.inner.FoundResources.{IsWithinLevels, resource_of};
 
-use crate::NoMemory;
 use crate::service_index::index_of_services;
 use doc_names::{Auid, DocId, Home};
 use std::alloc::{AllocError, Global};
@@ -45,7 +44,7 @@ fn stored_document<'a>(store: &'a Store, doc: &DocId) -> DocumentLookup<'a>
 }
 
 // The index of services, unless it is beyond its limit. Its tag is the last number given.
-fn find_index<'a>(alloc: Global, store: &'a Store) -> Result<DocumentLookup<'a>, NoMemory>
+fn find_index<'a>(alloc: Global, store: &'a Store) -> Result<DocumentLookup<'a>, AllocError>
     ensures leads_there { IfOk result
         (λ f. IsGlobalResource store.now.content RlsServices true (resource_of f)) }
     ensures found_within_levels { IfOk result (λ f. IsWithinLevels f) }
@@ -58,7 +57,7 @@ fn find_index<'a>(alloc: Global, store: &'a Store) -> Result<DocumentLookup<'a>,
 }
 
 // The capabilities, which never change.
-fn find_capabilities<'a>(alloc: Global) -> Result<DocumentLookup<'a>, NoMemory>
+fn find_capabilities<'a>(alloc: Global) -> Result<DocumentLookup<'a>, AllocError>
     ensures leads_there { IfOk result (λ f. resource_of f ≡ there capabilities 0) }
     ensures found_within_levels { IfOk result (λ f. IsWithinLevels f) }
 {
@@ -71,7 +70,7 @@ fn computed_document<'a>(
     alloc: Global,
     store: &'a Store,
     auid: Auid,
-) -> Result<DocumentLookup<'a>, NoMemory>
+) -> Result<DocumentLookup<'a>, AllocError>
     ensures leads_there { IfOk result
         (λ f. IsGlobalResource store.now.content auid true (resource_of f)) }
     ensures found_within_levels { IfOk result (λ f. IsWithinLevels f) }
@@ -89,7 +88,7 @@ fn global_document<'a>(
     alloc: Global,
     store: &'a Store,
     doc: &DocId,
-) -> Result<DocumentLookup<'a>, NoMemory>
+) -> Result<DocumentLookup<'a>, AllocError>
     ensures leads_there { IfOk result
         (λ f. IsGlobalResource store.now.content doc.now.auid (bytes_eq doc.now.name index)
         (resource_of f)) }
@@ -105,12 +104,12 @@ fn global_document<'a>(
 /// each has at most `MAX_LEVELS` levels.
 ///
 /// # Errors
-/// `NoMemory` when out of memory.
+/// `AllocError` when out of memory.
 pub fn find_resource<'a>(
     alloc: Global,
     store: &'a Store,
     doc: &DocId,
-) -> Result<DocumentLookup<'a>, NoMemory>
+) -> Result<DocumentLookup<'a>, AllocError>
     ensures leads_there { IfOk result (λ f.
         IsResourceOf store.now.content doc.now (resource_of f)) }
     ensures found_within_levels { IfOk result (λ f. IsWithinLevels f) }

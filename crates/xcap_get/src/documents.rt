@@ -9,14 +9,13 @@ ghost use Rattle.xcap_machine.specs.ReadRequests.{ReadsDocument, AnswersWithFoun
 ghost use Rattle.xcap_machine.specs.Resources.{IsResourceOf, there};
 ghost use Rattle.xcap_get.specs.inner.StoredDocuments.{IsStoredWithTag};
 
-use crate::NoMemory;
 use crate::document_lookup::{DocumentLookup, find_resource};
 use crate::text_replies::text_reply;
 use doc_names::{DocId, Home};
 use http_wire::Request;
 use reply_text::{MediaType, Reply};
 use request_checks::{Method, condition_reply, document_media_type};
-use std::alloc::Global;
+use std::alloc::{AllocError, Global};
 use store_core::Store;
 use tree_print::print_document;
 use xml_tree::Element;
@@ -29,7 +28,7 @@ fn document_reply(
     media: MediaType,
     method: Method,
     request: &Request,
-) -> Result<Reply, NoMemory>
+) -> Result<Reply, AllocError>
     ensures sends_found { IfOk result
         (λ r. AnswersWithFound (Some (encode_utf8_all (document_print root.now))) tag media
         (record { method = method; request = request.now }) (reply_only r)) }
@@ -48,7 +47,7 @@ fn get_and_print(
     doc: &DocId,
     method: Method,
     request: &Request,
-) -> Result<Reply, NoMemory>
+) -> Result<Reply, AllocError>
     ensures machine_reply { IfOk result
         (λ r. ReadsDocument store.now.content doc.now
         (record { method = method; request = request.now }) (reply_only r)) }
@@ -86,7 +85,7 @@ fn printed_reply(
     tag: u64,
     method: Method,
     closes: bool,
-) -> Result<Reply, NoMemory>
+) -> Result<Reply, AllocError>
     requires stored_there { IsStoredWithTag store.old.content doc.now tag }
     ensures sends_printed { IfOk result
         (λ r. (t : Tree) × IsResourceOf store.old.content doc.now (there t tag)
@@ -110,7 +109,7 @@ fn stored_reply(
     tag: u64,
     method: Method,
     request: &Request,
-) -> Result<Reply, NoMemory>
+) -> Result<Reply, AllocError>
     requires stored_there { IsStoredWithTag store.old.content doc.now tag }
     ensures machine_reply { IfOk result
         (λ r. ReadsDocument store.old.content doc.now
@@ -128,14 +127,14 @@ fn stored_reply(
 /// it. HEAD gets the head of GET's reply.
 ///
 /// # Errors
-/// `NoMemory` when out of memory.
+/// `AllocError` when out of memory.
 pub fn get_document(
     alloc: Global,
     store: &mut Store,
     doc: &DocId,
     method: Method,
     request: &Request,
-) -> Result<Reply, NoMemory>
+) -> Result<Reply, AllocError>
     ensures machine_reply { IfOk result
         (λ r. ReadsDocument store.old.content doc.now
         (record { method = method; request = request.now }) (reply_only r)) }

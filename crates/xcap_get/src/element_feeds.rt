@@ -3,7 +3,6 @@ ghost use Rattle.std.specs.Prelude.{IfOk};
 ghost use Rattle.xcap_machine.specs.Answers.{reply_only};
 ghost use Rattle.xcap_machine.specs.ElementFeeds.{ReadsElementFeed};
 
-use crate::NoMemory;
 use crate::feed_replies::notice_reply;
 use element_watch::{ElementFault, Watch, element_notice};
 use http_wire::Request;
@@ -20,7 +19,7 @@ use xcap_uri::Root;
 /// Conditions are ignored. HEAD gets the head of GET's reply.
 ///
 /// # Errors
-/// `NoMemory` when out of memory.
+/// `AllocError` when out of memory.
 pub fn get_element_feed(
     alloc: Global,
     root: &Root,
@@ -28,7 +27,7 @@ pub fn get_element_feed(
     watch: Watch<'_>,
     method: Method,
     request: &Request,
-) -> Result<Reply, NoMemory>
+) -> Result<Reply, AllocError>
     ensures machine_reply { IfOk result (λ r. ReadsElementFeed
         (record { root = root.now; content = store.now.content })
         (record {

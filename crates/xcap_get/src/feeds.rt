@@ -3,14 +3,13 @@ ghost use Rattle.std.specs.Prelude.{IfOk};
 ghost use Rattle.xcap_machine.specs.Answers.{reply_only};
 ghost use Rattle.xcap_machine.specs.Feeds.{ReadsFeed};
 
-use crate::NoMemory;
 use crate::feed_replies::notice_reply;
 use doc_names::DocId;
 use http_wire::Request;
 use patch_write::{gone_notice, notice};
 use reply_text::Reply;
 use request_checks::Method;
-use std::alloc::Global;
+use std::alloc::{AllocError, Global};
 use store_core::{Since, Store};
 use xcap_uri::{Mode, Root};
 
@@ -29,7 +28,7 @@ pub struct Feed<'a> {
 /// are ignored. HEAD gets the head of GET's reply.
 ///
 /// # Errors
-/// `NoMemory` when out of memory.
+/// `AllocError` when out of memory.
 pub fn get_feed(
     alloc: Global,
     root: &Root,
@@ -37,7 +36,7 @@ pub fn get_feed(
     feed: Feed<'_>,
     method: Method,
     request: &Request,
-) -> Result<Reply, NoMemory>
+) -> Result<Reply, AllocError>
     ensures machine_reply { IfOk result (λ r. ReadsFeed
         (record { root = root.now; content = store.now.content })
         (record { mode = feed.entry.mode; tag = feed.entry.tag; id = feed.entry.doc.now })

@@ -8,7 +8,6 @@ ghost use Rattle.request_checks.specs.Methods.{reply_for_method};
 ghost use Rattle.xcap_machine.specs.Answers.{found_reply, reply_only};
 ghost use Rattle.xcap_machine.specs.FlatLists.{IsFlatDocument, ReadsFlatList, flat_fault_status};
 
-use crate::NoMemory;
 use doc_names::DocId;
 use http_wire::Request;
 use list_resolve::{FlatFault, flat_document, flat_list};
@@ -43,7 +42,7 @@ fn flat_list_reply(
     document: &Element,
     method: Method,
     closes: bool,
-) -> Result<Reply, NoMemory>
+) -> Result<Reply, AllocError>
     ensures ok { IfOk result
         (λ r. r ≡ reply_for_method method
         (found_reply None medias.ResourceLists
@@ -72,7 +71,7 @@ fn flat_refusal_reply(fault: FlatFault, closes: bool) -> Reply
 /// GET's reply.
 ///
 /// # Errors
-/// `NoMemory` when out of memory.
+/// `AllocError` when out of memory.
 pub fn get_flat_list(
     alloc: Global,
     root: &Root,
@@ -81,7 +80,7 @@ pub fn get_flat_list(
     service: &Text,
     method: Method,
     request: &Request,
-) -> Result<Reply, NoMemory>
+) -> Result<Reply, AllocError>
     ensures machine_reply { IfOk result
         (λ r. ReadsFlatList (record { root = root.now; content = store.now.content })
         doc.now service.now (record { method = method; request = request.now }) (reply_only r)) }

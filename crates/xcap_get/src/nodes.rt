@@ -6,7 +6,6 @@ ghost use Rattle.reply_bodies.specs.Nodes.{encode_optional, found_text, node_med
 ghost use Rattle.xcap_machine.specs.Answers.{reply_only};
 ghost use Rattle.xcap_machine.specs.ReadRequests.{ReadsNode, AnswersWithFound};
 
-use crate::NoMemory;
 use crate::document_lookup::{DocumentLookup, find_resource};
 use crate::text_replies::text_reply;
 use doc_names::DocId;
@@ -15,7 +14,7 @@ use node_select::Selector;
 use reply_bodies::{found_text, node_media_type};
 use reply_text::Reply;
 use request_checks::{Method, condition_reply};
-use std::alloc::Global;
+use std::alloc::{AllocError, Global};
 use store_core::Store;
 use xml_tree::Element;
 
@@ -28,7 +27,7 @@ fn node_reply(
     selector: &Selector,
     method: Method,
     request: &Request,
-) -> Result<Reply, NoMemory>
+) -> Result<Reply, AllocError>
     requires height_bounded { height root.now ≤ MAX_LEVELS }
     ensures sends_found { IfOk result
         (λ r. AnswersWithFound (encode_optional (found_text root.now selector.now)) tag
@@ -50,7 +49,7 @@ fn node_reply(
 /// documents. Nodes of computed documents are read like those of stored ones.
 ///
 /// # Errors
-/// `NoMemory` when out of memory.
+/// `AllocError` when out of memory.
 pub fn get_node(
     alloc: Global,
     store: &Store,
@@ -58,7 +57,7 @@ pub fn get_node(
     selector: &Selector,
     method: Method,
     request: &Request,
-) -> Result<Reply, NoMemory>
+) -> Result<Reply, AllocError>
     ensures machine_reply { IfOk result
         (λ r. ReadsNode store.now.content doc.now selector.now
         (record { method = method; request = request.now }) (reply_only r)) }

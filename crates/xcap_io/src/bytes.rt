@@ -1,8 +1,7 @@
 // Owned bytes, which contracts see as a list of numbers.
 ghost use Rattle.std.specs.Prelude.{◌≡◌, [], ◌∷◌, ◌++◌, length, IfOk, MatchResult};
 
-use crate::NoMemory;
-use std::alloc::Global;
+use std::alloc::{AllocError, Global};
 use std::hash::{Hash, Hasher};
 use std::marker::Model;
 
@@ -31,7 +30,7 @@ impl Bytes {
     }
 
     /// A copy of `bytes`.
-    pub fn from(alloc: Global, bytes: &[u8]) -> Result<Bytes, NoMemory>
+    pub fn from(alloc: Global, bytes: &[u8]) -> Result<Bytes, AllocError>
         ensures same_bytes { IfOk result (λ copy. copy ≡ bytes.now) }
     {
         let inner = Vec::from_slice(alloc, bytes)?;
@@ -68,14 +67,14 @@ impl Bytes {
     }
 
     /// A copy of this buffer.
-    pub fn copy(&self, alloc: Global) -> Result<Bytes, NoMemory>
+    pub fn copy(&self, alloc: Global) -> Result<Bytes, AllocError>
         ensures equal_copy { IfOk result (λ copy. copy ≡ self.now) }
     {
         Bytes::from(alloc, self.as_slice())
     }
 
-    /// Appends a byte. At `NoMemory` the bytes are unchanged.
-    pub fn push(&mut self, byte: u8) -> Result<(), NoMemory>
+    /// Appends a byte. At `AllocError` the bytes are unchanged.
+    pub fn push(&mut self, byte: u8) -> Result<(), AllocError>
         ensures appended_or_unchanged { MatchResult result (λ _. self.new ≡ self.old ++ byte ∷ [])
             (λ _. self.new ≡ self.old) }
     {
@@ -83,8 +82,8 @@ impl Bytes {
         Ok(())
     }
 
-    /// Appends bytes. At `NoMemory` the bytes are unchanged.
-    pub fn extend(&mut self, bytes: &[u8]) -> Result<(), NoMemory>
+    /// Appends bytes. At `AllocError` the bytes are unchanged.
+    pub fn extend(&mut self, bytes: &[u8]) -> Result<(), AllocError>
         ensures appended_or_unchanged { MatchResult result (λ _. self.new ≡ self.old ++ bytes.now)
             (λ _. self.new ≡ self.old) }
     {

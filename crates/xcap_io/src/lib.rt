@@ -29,7 +29,6 @@ pub use io_pair::IoPair;
 pub use mem_peer::MemPeer;
 pub use mem_port::MemPort;
 pub use mem_stream::MemStream;
-pub use std::alloc::AllocError as NoMemory;
 pub use std_streams::{StdSink, StdSource};
 pub use streams::{Failed, Line, Peer, Port, Sink, Source, count_fault};
 pub use tcp::TcpPort;

@@ -10,8 +10,8 @@ ghost use Rattle.xcap_io.specs.StreamWrites.{WritesSome};
 
 use crate::streams::count_fault;
 use crate::traffic_log::TrafficLog;
-use crate::{Failed, Line, NoMemory, Sink, Source};
-use std::alloc::Global;
+use crate::{Failed, Line, Sink, Source};
+use std::alloc::{AllocError, Global};
 use std::marker::Model;
 
 /// A stream in memory. It gives its bytes at most `step` at a time, takes bytes until its capacity
@@ -60,7 +60,7 @@ impl MemStream {
         step: usize,
         read_fails_at: Option<usize>,
         room: usize,
-    ) -> Result<MemStream, NoMemory>
+    ) -> Result<MemStream, AllocError>
         requires { 0 < step }
         ensures ok { IfOk result (λ line. line ≡ record {
           left = bytes.now;

@@ -4,10 +4,9 @@ ghost use Rattle.reply_bodies.specs.declared.conflicts.ErrorBody.TheVariants as 
 ghost use Rattle.xcap_machine.specs.Answers.{error_reply};
 ghost use Rattle.xcap_machine.specs.DocumentWrites.{clash_field, fault_conflict};
 
-use crate::NoMemory;
 use reply_bodies::{ErrorBody, error_document};
 use reply_text::{MediaType, Reply};
-use std::alloc::Global;
+use std::alloc::{AllocError, Global};
 use usage_docs::{Clash, Fault};
 use xml_names::Text;
 use xml_tree::print_path;
@@ -17,7 +16,7 @@ pub(crate) fn conflict_reply(
     alloc: Global,
     body: &ErrorBody,
     closes: bool,
-) -> Result<Reply, NoMemory>
+) -> Result<Reply, AllocError>
     ensures ok { IfOk result (λ reply. reply ≡ error_reply body.now closes) }
 {
     let document = error_document(alloc, body)?;
@@ -25,14 +24,14 @@ pub(crate) fn conflict_reply(
 }
 
 /// The reply to a node without a parent: the URI is the closest ancestor's.
-pub(crate) fn no_parent_reply(alloc: Global, uri: Text, closes: bool) -> Result<Reply, NoMemory>
+pub(crate) fn no_parent_reply(alloc: Global, uri: Text, closes: bool) -> Result<Reply, AllocError>
     ensures ok { IfOk result (λ reply. reply ≡ error_reply (conflicts.NoParent uri) closes) }
 {
     conflict_reply(alloc, &ErrorBody::NoParent(uri), closes)
 }
 
 // The place of a clash: the path of the element, `/@` and the key.
-fn clash_field(alloc: Global, clash: &Clash) -> Result<Text, NoMemory>
+fn clash_field(alloc: Global, clash: &Clash) -> Result<Text, AllocError>
     ensures ok { IfOk result (λ field. field ≡ clash_field clash.now) }
 {
     let mut field = print_path(alloc, &clash.path)?;
@@ -42,7 +41,7 @@ fn clash_field(alloc: Global, clash: &Clash) -> Result<Text, NoMemory>
 }
 
 /// The error for a tree that is no document of its usage.
-pub(crate) fn fault_conflict(alloc: Global, fault: &Fault) -> Result<ErrorBody, NoMemory>
+pub(crate) fn fault_conflict(alloc: Global, fault: &Fault) -> Result<ErrorBody, AllocError>
     ensures ok { IfOk result (λ body. body ≡ fault_conflict fault.now) }
 {
     match fault {
@@ -53,7 +52,7 @@ pub(crate) fn fault_conflict(alloc: Global, fault: &Fault) -> Result<ErrorBody, 
 }
 
 /// The error for a key that is there already.
-pub(crate) fn uniqueness_conflict(alloc: Global, clash: &Clash) -> Result<ErrorBody, NoMemory>
+pub(crate) fn uniqueness_conflict(alloc: Global, clash: &Clash) -> Result<ErrorBody, AllocError>
     ensures ok { IfOk result (λ body. body ≡ conflicts.Unique (clash_field clash.now)) }
 {
     let field = clash_field(alloc, clash)?;

@@ -6,13 +6,13 @@ ghost use Rattle.xcap_machine.specs.DocumentWrites.{change_answer, put_reply};
 ghost use Rattle.xcap_put.specs.Decisions.{DecidesAnswer};
 ghost use Rattle.xcap_put.specs.inner.RequestPlans.{AsksForPlan, answer_of_plan};
 
+use crate::Decision;
 use crate::plan::Plan;
 use crate::refusal_replies::refusal_reply;
-use crate::{Decision, NoMemory};
 use doc_names::DocId;
 use edit_ops::Change;
 use reply_text::Reply;
-use std::alloc::Global;
+use std::alloc::{AllocError, Global};
 use store_core::Store;
 use xcap_io::Bytes;
 
@@ -31,7 +31,7 @@ fn put_reply(alloc: Global, exists: bool, tag: u64, closes: bool) -> Reply
 /// service address is another document's, 507 beyond a limit.
 ///
 /// # Errors
-/// `NoMemory` when out of memory.
+/// `AllocError` when out of memory.
 pub(crate) fn decide_change(
     alloc: Global,
     store: &mut Store,
@@ -39,7 +39,7 @@ pub(crate) fn decide_change(
     change: Change,
     exists: bool,
     closes: bool,
-) -> Result<Decision, NoMemory>
+) -> Result<Decision, AllocError>
     requires change_asked { MayRequest store.old.content doc change }
     ensures decides_change { IfOk result (λ d.
         DecidesAnswer (λ a. a ≡ change_answer store.old.content doc change closes
@@ -61,14 +61,14 @@ pub(crate) fn decide_change(
 /// Decides by a plan.
 ///
 /// # Errors
-/// `NoMemory` when out of memory.
+/// `AllocError` when out of memory.
 pub(crate) fn decide_plan(
     alloc: Global,
     store: &mut Store,
     doc: DocId,
     plan: Plan,
     closes: bool,
-) -> Result<Decision, NoMemory>
+) -> Result<Decision, AllocError>
     requires change_asked { AsksForPlan store.old.content doc plan }
     ensures decides_by_plan { IfOk result
         (λ d. DecidesAnswer (λ a. a ≡ answer_of_plan store.old.content doc closes plan) store.new

@@ -13,16 +13,16 @@ ghost use Rattle.xcap_machine.specs.DocumentWrites.{put_change};
 ghost use Rattle.xcap_machine.specs.inner.AnswerCases.{version_tag};
 ghost use Rattle.xcap_put.specs.Decisions.{DecidesAnswer};
 
+use crate::Decision;
 use crate::decisions::decide_change;
 use crate::refusal_replies::refusal_reply;
 use crate::request_bodies::{Body, read_request_body};
-use crate::{Decision, NoMemory};
 use doc_names::{DocId, Usage};
 use edit_ops::Change;
 use http_wire::Request;
 use reply_text::Reply;
 use request_checks::{condition_reply, document_media_type};
-use std::alloc::Global;
+use std::alloc::{AllocError, Global};
 use store_core::Store;
 use xml_tree::{Element, Path};
 
@@ -57,7 +57,7 @@ fn put_tree(
     usage: Usage,
     root: Element,
     closes: bool,
-) -> Result<Decision, NoMemory>
+) -> Result<Decision, AllocError>
     requires readable { IsAddressable doc }
     requires user_document { IsUserHome doc.home }
     requires usage_of_doc { usage_of doc.auid ≡ Some usage }
@@ -77,7 +77,7 @@ fn put_document_body(
     doc: DocId,
     usage: Usage,
     request: &Request,
-) -> Result<Decision, NoMemory>
+) -> Result<Decision, AllocError>
     requires readable { IsAddressable doc }
     requires user_document { IsUserHome doc.home }
     requires usage_of_doc { usage_of doc.auid ≡ Some usage }
@@ -99,14 +99,14 @@ fn put_document_body(
 /// is another document's, 507 beyond a limit.
 ///
 /// # Errors
-/// `NoMemory` when out of memory.
+/// `AllocError` when out of memory.
 pub fn put_document(
     alloc: Global,
     store: &mut Store,
     doc: DocId,
     usage: Usage,
     request: &Request,
-) -> Result<Decision, NoMemory>
+) -> Result<Decision, AllocError>
     requires readable { IsAddressable doc }
     requires user_document { IsUserHome doc.home }
     requires usage_of_doc { usage_of doc.auid ≡ Some usage }
@@ -129,7 +129,7 @@ fn remove_document(
     store: &mut Store,
     doc: DocId,
     closes: bool,
-) -> Result<Decision, NoMemory>
+) -> Result<Decision, AllocError>
     requires stored_there { MayRequest store.old.content doc changes.RemoveDocument }
     ensures decides_removal { IfOk result (λ d.
         DecidesAnswer (λ a. a ≡ change_answer store.old.content doc changes.RemoveDocument closes
@@ -155,7 +155,7 @@ fn delete_stored_document(
     doc: DocId,
     tag: u64,
     request: &Request,
-) -> Result<Decision, NoMemory>
+) -> Result<Decision, AllocError>
     requires tag_of_version { Some tag ≡ version_tag (version_of store.old.content doc) }
     ensures decides_removal { IfOk result
         (λ d. DecidesAnswer (DeletesDocument store.old.content doc request.now) store.new d) }
@@ -172,13 +172,13 @@ fn delete_stored_document(
 /// given.
 ///
 /// # Errors
-/// `NoMemory` when out of memory.
+/// `AllocError` when out of memory.
 pub fn delete_document(
     alloc: Global,
     store: &mut Store,
     doc: DocId,
     request: &Request,
-) -> Result<Decision, NoMemory>
+) -> Result<Decision, AllocError>
     ensures decides_removal { IfOk result
         (λ d. DecidesAnswer (DeletesDocument store.old.content doc request.now) store.new d) }
     ensures contents_unchanged { store.new.content ≡ store.old.content }

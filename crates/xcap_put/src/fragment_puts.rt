@@ -21,7 +21,6 @@ ghost use Rattle.xcap_machine.specs.NodeWrites.{edit_target_scope};
 ghost use Rattle.xcap_machine.specs.NodeWrites.{value_conflict};
 ghost use Rattle.xcap_put.specs.inner.RequestPlans.{IsPlanFor, SpotExists};
 
-use crate::NoMemory;
 use crate::conflicts::conflict_reply;
 use crate::plan::{Plan, plan_from_result};
 use crate::request_bodies::text_conflict;
@@ -32,7 +31,7 @@ use node_select::Selector;
 use reply_bodies::{ErrorBody, node_media_type};
 use reply_text::Reply;
 use request_checks::has_media_type;
-use std::alloc::Global;
+use std::alloc::{AllocError, Global};
 use tree_text::{TextFault, ValueFault, read_att_value, read_fragment};
 use xml_names::{MAX_LEVELS, ReadError};
 use xml_tree::{Element, Path, Scope};
@@ -106,7 +105,7 @@ fn read_element(
 }
 
 // The reply to a body that is no element.
-fn element_refusal_plan(alloc: Global, fault: TextFault, closes: bool) -> Result<Plan, NoMemory>
+fn element_refusal_plan(alloc: Global, fault: TextFault, closes: bool) -> Result<Plan, AllocError>
     ensures fault_reply { IfOk result
         (λ plan. plan ≡ Stops (error_reply (text_conflict conflicts.NotXmlFrag fault) closes)) }
 {
@@ -124,7 +123,7 @@ fn put_element(
     spot: &Spot,
     exists: bool,
     request: &Request,
-) -> Result<Plan, NoMemory>
+) -> Result<Plan, AllocError>
     requires is_sound { IsSoundDocument usage tree.now }
     requires valid_spot { IsSpotOf tree.now selector.now spot.now }
     requires selector_end { selector.now.end ≡ ends.Element }
@@ -141,7 +140,7 @@ fn put_element(
             plan_from_result(alloc, planned, exists, request.closes)
         }
         Err(ReadError::Fault(fault)) => element_refusal_plan(alloc, fault, request.closes),
-        Err(ReadError::NoMemory) => Err(NoMemory),
+        Err(ReadError::NoMemory) => Err(AllocError),
     }
 }
 
@@ -158,7 +157,7 @@ fn value_conflict(fault: ValueFault) -> ErrorBody
 }
 
 // The reply to a body that is no attribute value.
-fn value_refusal_plan(alloc: Global, fault: ValueFault, closes: bool) -> Result<Plan, NoMemory>
+fn value_refusal_plan(alloc: Global, fault: ValueFault, closes: bool) -> Result<Plan, AllocError>
     ensures fault_reply { IfOk result
         (λ plan. plan ≡ Stops (error_reply (value_conflict fault) closes)) }
 {
@@ -177,7 +176,7 @@ fn put_value(
     path: &Path,
     exists: bool,
     request: &Request,
-) -> Result<Plan, NoMemory>
+) -> Result<Plan, AllocError>
     requires is_sound { IsSoundDocument usage tree.now }
     requires writable { IsWritableSelector selector.now }
     requires valid_spot { IsSpotOf tree.now selector.now (Value path.now) }
@@ -194,7 +193,7 @@ fn put_value(
             plan_from_result(alloc, planned, exists, request.closes)
         }
         Err(ReadError::Fault(fault)) => value_refusal_plan(alloc, fault, request.closes),
-        Err(ReadError::NoMemory) => Err(NoMemory),
+        Err(ReadError::NoMemory) => Err(AllocError),
     }
 }
 
@@ -209,7 +208,7 @@ fn put_node_body(
     spot: &Spot,
     exists: bool,
     request: &Request,
-) -> Result<Plan, NoMemory>
+) -> Result<Plan, AllocError>
     requires is_sound { IsSoundDocument usage tree.now }
     requires writable { IsWritableSelector selector.now }
     requires valid_spot { IsSpotOf tree.now selector.now spot.now }
@@ -233,7 +232,7 @@ fn put_node_body(
 /// would not be one of its usage.
 ///
 /// # Errors
-/// `NoMemory` when out of memory.
+/// `AllocError` when out of memory.
 pub(crate) fn put_fragment(
     alloc: Global,
     usage: Usage,
@@ -242,7 +241,7 @@ pub(crate) fn put_fragment(
     spot: &Spot,
     exists: bool,
     request: &Request,
-) -> Result<Plan, NoMemory>
+) -> Result<Plan, AllocError>
     requires is_sound { IsSoundDocument usage tree.now }
     requires writable { IsWritableSelector selector.now }
     requires valid_spot { IsSpotOf tree.now selector.now spot.now }

@@ -22,4 +22,3 @@ mod request_bodies;
 pub use decision::Decision;
 pub use documents::{delete_document, put_document};
 pub use nodes::{delete_node, missing_parent_reply, put_node};
-pub use std::alloc::AllocError as NoMemory;

@@ -17,12 +17,12 @@ ghost use Rattle.xcap_machine.specs.inner.AnswerCases.{DeletesNodeOfVersion, Put
 ghost use Rattle.xcap_put.specs.Decisions.{DecidesAnswer};
 ghost use Rattle.xcap_put.specs.inner.RequestPlans.{IsRemovalPlan, IsPlanFor, IsPlanFromResult};
 
+use crate::Decision;
 use crate::conflicts::no_parent_reply;
 use crate::decisions::decide_plan;
 use crate::fragment_puts::put_fragment;
 use crate::plan::Plan;
 use crate::refusal_replies::unplanned;
-use crate::{Decision, NoMemory};
 use doc_names::{Auid, DocId, Home, Usage};
 use edit_plans::{EditRefusal, Spot, plan_delete, put_spot};
 use http_wire::Request;
@@ -30,7 +30,7 @@ use node_select::Selector;
 use reply_bodies::{has_node_at, texts_are_those_of_found_nodes};
 use reply_text::Reply;
 use request_checks::condition_reply;
-use std::alloc::Global;
+use std::alloc::{AllocError, Global};
 use store_core::Store;
 use xcap_uri::{Root, ancestor_uri, home_uri};
 use xml_tree::Element;
@@ -68,7 +68,7 @@ fn plan_put_at(
     selector: &Selector,
     spot: &Spot,
     request: &Request,
-) -> Result<Plan, NoMemory>
+) -> Result<Plan, AllocError>
     requires is_sound { IsSoundDocument usage tree.now }
     requires writable { IsWritableSelector selector.now }
     requires valid_spot { IsSpotOf tree.now selector.now spot.now }
@@ -96,7 +96,7 @@ fn plan_put_in_document(
     held: (&Element, u64),
     selector: &Selector,
     request: &Request,
-) -> Result<Plan, NoMemory>
+) -> Result<Plan, AllocError>
     requires is_sound { IsSoundDocument usage held.0.now }
     requires selects_node { selector.now.end ≡ ends.Namespaces → ⊥ }
     requires writable { IsWritableSelector selector.now }
@@ -126,7 +126,7 @@ fn plan_put_in_document(
 /// beyond a limit.
 ///
 /// # Errors
-/// `NoMemory` when out of memory.
+/// `AllocError` when out of memory.
 pub fn put_node(
     alloc: Global,
     store: &mut Store,
@@ -135,7 +135,7 @@ pub fn put_node(
     usage: Usage,
     selector: &Selector,
     request: &Request,
-) -> Result<Decision, NoMemory>
+) -> Result<Decision, AllocError>
     requires usage_of_doc { usage_of doc.auid ≡ Some usage }
     requires selects_node { selector.now.end ≡ ends.Namespaces → ⊥ }
     requires writable { IsWritableSelector selector.now }
@@ -161,14 +161,14 @@ pub fn put_node(
 /// `no-parent`, with the home as ancestor.
 ///
 /// # Errors
-/// `NoMemory` when out of memory.
+/// `AllocError` when out of memory.
 pub fn missing_parent_reply(
     alloc: Global,
     root: &Root,
     auid: Auid,
     home: &Home,
     request: &Request,
-) -> Result<Reply, NoMemory>
+) -> Result<Reply, AllocError>
     ensures reply_or_missing { IfOk result
         (λ r. missing_parent_answer root.now auid home.now request.now ≡ reply_only r) }
 {
@@ -179,7 +179,11 @@ pub fn missing_parent_reply(
 // ---- DELETE
 
 // The plan of a DELETE that is refused for this reason; None where nothing is found.
-fn removal_refusal(alloc: Global, why: EditRefusal, closes: bool) -> Result<Option<Plan>, NoMemory>
+fn removal_refusal(
+    alloc: Global,
+    why: EditRefusal,
+    closes: bool,
+) -> Result<Option<Plan>, AllocError>
     ensures reason_reply { IfOk result (λ plan. MatchOption plan (why ≡ refusals.NotFound)
         (λ p. (why ≢ refusals.NotFound) × IsPlanFromResult (Err why) true closes p)) }
 {
@@ -199,7 +203,7 @@ fn plan_node_removal(
     tree: &Element,
     selector: &Selector,
     request: &Request,
-) -> Result<Option<Plan>, NoMemory>
+) -> Result<Option<Plan>, AllocError>
     requires is_sound { IsSoundDocument usage tree.now }
     requires selects_node { selector.now.end ≡ ends.Namespaces → ⊥ }
     ensures plans_removal { IfOk result
@@ -223,7 +227,7 @@ fn plan_delete_in_document(
     held: (&Element, u64),
     selector: &Selector,
     request: &Request,
-) -> Result<Plan, NoMemory>
+) -> Result<Plan, AllocError>
     requires is_sound { IsSoundDocument usage held.0.now }
     requires selects_node { selector.now.end ≡ ends.Namespaces → ⊥ }
     ensures plans_removal { IfOk result
@@ -255,7 +259,7 @@ fn plan_delete_in_document(
 /// the document wouldn't be one of the usage; 507 where the greatest number has been given.
 ///
 /// # Errors
-/// `NoMemory` when out of memory.
+/// `AllocError` when out of memory.
 pub fn delete_node(
     alloc: Global,
     store: &mut Store,
@@ -263,7 +267,7 @@ pub fn delete_node(
     usage: Usage,
     selector: &Selector,
     request: &Request,
-) -> Result<Decision, NoMemory>
+) -> Result<Decision, AllocError>
     requires usage_of_doc { usage_of doc.auid ≡ Some usage }
     requires selects_node { selector.now.end ≡ ends.Namespaces → ⊥ }
     ensures decides_removal { IfOk result

@@ -2,12 +2,11 @@
 ghost use Rattle.std.specs.Prelude.{IfOk};
 ghost use Rattle.xcap_put.specs.inner.RequestPlans.{IsPlanFromResult};
 
-use crate::NoMemory;
 use crate::refusal_replies::unplanned;
 use edit_ops::Change;
 use edit_plans::EditRefusal;
 use reply_text::Reply;
-use std::alloc::Global;
+use std::alloc::{AllocError, Global};
 
 /// The plan of a request on a node, before the store is asked.
 #[derive(Drop)]
@@ -25,7 +24,7 @@ pub(crate) fn plan_from_result(
     planned: Result<Change, EditRefusal>,
     exists: bool,
     closes: bool,
-) -> Result<Plan, NoMemory>
+) -> Result<Plan, AllocError>
     ensures exact_plan { IfOk result (λ plan. IsPlanFromResult planned exists closes plan) }
 {
     match planned {

@@ -5,17 +5,16 @@ ghost use Rattle.xcap_machine.specs.NodeWrites.{plan_refusal_reply};
 ghost use Rattle.xcap_machine.specs.DocumentWrites.{clash_field, fault_conflict, refusal_reply};
 ghost use Rattle.reply_bodies.specs.declared.conflicts.ErrorBody.TheVariants as conflicts;
 
-use crate::NoMemory;
 use crate::conflicts::{conflict_reply, fault_conflict, uniqueness_conflict};
 use edit_plans::EditRefusal;
 use reply_bodies::ErrorBody;
 use reply_text::Reply;
-use std::alloc::Global;
+use std::alloc::{AllocError, Global};
 use store_core::StoreRefusal;
 use usage_docs::{Clash, Fault};
 
 // The reply where another document has a service address.
-fn taken_address_reply(alloc: Global, clash: Clash, closes: bool) -> Result<Reply, NoMemory>
+fn taken_address_reply(alloc: Global, clash: Clash, closes: bool) -> Result<Reply, AllocError>
     ensures ok { IfOk result
         (λ reply. reply ≡ error_reply (conflicts.Unique (clash_field clash)) closes) }
 {
@@ -28,7 +27,7 @@ pub(crate) fn refusal_reply(
     alloc: Global,
     refusal: StoreRefusal,
     closes: bool,
-) -> Result<Reply, NoMemory>
+) -> Result<Reply, AllocError>
     ensures ok { IfOk result (λ reply. reply ≡ refusal_reply refusal closes) }
 {
     match refusal {
@@ -41,7 +40,7 @@ pub(crate) fn refusal_reply(
 }
 
 // The reply to a change that would give a document this fault.
-fn fault_refusal_reply(alloc: Global, fault: Fault, closes: bool) -> Result<Reply, NoMemory>
+fn fault_refusal_reply(alloc: Global, fault: Fault, closes: bool) -> Result<Reply, AllocError>
     ensures fault_reply { IfOk result (λ reply. reply
         ≡ error_reply (fault_conflict fault) closes) }
 {
@@ -50,7 +49,7 @@ fn fault_refusal_reply(alloc: Global, fault: Fault, closes: bool) -> Result<Repl
 }
 
 /// The reply to a change of a node for which there is no planned change.
-pub(crate) fn unplanned(alloc: Global, why: EditRefusal, closes: bool) -> Result<Reply, NoMemory>
+pub(crate) fn unplanned(alloc: Global, why: EditRefusal, closes: bool) -> Result<Reply, AllocError>
     ensures ok { IfOk result (λ reply. reply ≡ plan_refusal_reply why closes) }
 {
     match why {

@@ -8,14 +8,13 @@ ghost use Rattle.xcap_machine.specs.DocumentWrites.{PutsBody, PutsParsedBody, te
 ghost use Rattle.xcap_machine.specs.inner.AnswerCases.{PutsParsedText};
 ghost use Rattle.xcap_put.specs.inner.ReadBodies.{IsReadBody};
 
-use crate::NoMemory;
 use crate::conflicts::{conflict_reply, fault_conflict};
 use doc_names::Usage;
 use http_wire::Request;
 use reply_bodies::ErrorBody;
 use reply_text::{MediaType, Reply};
 use request_checks::has_media_type;
-use std::alloc::Global;
+use std::alloc::{AllocError, Global};
 use tree_text::{TextFault, read_document};
 use usage_docs::first_fault;
 use xml_names::{MAX_LEVELS, ReadError};
@@ -45,7 +44,7 @@ pub(crate) fn text_conflict(malformed: ErrorBody, fault: TextFault) -> ErrorBody
 }
 
 // The reply to a text that is no document.
-fn text_refusal_reply(alloc: Global, fault: TextFault, closes: bool) -> Result<Reply, NoMemory>
+fn text_refusal_reply(alloc: Global, fault: TextFault, closes: bool) -> Result<Reply, AllocError>
     ensures fault_reply { IfOk result
         (λ reply. reply ≡ error_reply (text_conflict conflicts.NotWellFormed fault) closes) }
 {
@@ -59,7 +58,7 @@ fn check_document(
     usage: Usage,
     root: Element,
     closes: bool,
-) -> Result<Body, NoMemory>
+) -> Result<Body, AllocError>
     requires proper { IsProperTree [] root }
     requires height_bounded { height root ≤ MAX_LEVELS }
     ensures comes_of_tree { IfOk result
@@ -78,7 +77,7 @@ fn check_document(
 }
 
 // Reads a body of the usage's media type.
-fn parse_body(alloc: Global, usage: Usage, request: &Request) -> Result<Body, NoMemory>
+fn parse_body(alloc: Global, usage: Usage, request: &Request) -> Result<Body, AllocError>
     ensures comes_of_text { IfOk result
         (λ body. IsReadBody (λ answer a. PutsParsedBody usage request.now answer a) usage body) }
 {
@@ -88,7 +87,7 @@ fn parse_body(alloc: Global, usage: Usage, request: &Request) -> Result<Body, No
             let reply = text_refusal_reply(alloc, fault, request.closes)?;
             Ok(Body::Refused(reply))
         }
-        Err(ReadError::NoMemory) => Err(NoMemory),
+        Err(ReadError::NoMemory) => Err(AllocError),
     }
 }
 
@@ -98,7 +97,7 @@ pub(crate) fn read_request_body(
     usage: Usage,
     media: MediaType,
     request: &Request,
-) -> Result<Body, NoMemory>
+) -> Result<Body, AllocError>
     ensures comes_of_body { IfOk result
         (λ body. IsReadBody (λ answer a. PutsBody usage media request.now answer a) usage body) }
 {

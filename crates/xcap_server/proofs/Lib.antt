@@ -1,7 +1,8 @@
-pub mod CloseLemmas
 pub mod DecisionAnswers
 pub mod Dispatch
+pub mod DurableServers
 pub mod KnownBytes
+pub mod LentAnswers
 pub mod LoggedServers
 pub mod RecordedChanges
 pub mod Redone

@@ -39,12 +39,12 @@ use Rattle.xcap_server.specs.ReplayedRequests.{AcceptsRequests}
 use Rattle.xcap_machine.specs.ServerStates.{ServerState}
 use Rattle.xcap_server.specs.inner.ServerSteps.{AnswersRequest, CarriesOutDecision}
 use Rattle.xcap_server.proofs.DecisionAnswers.{answered_so}
-use Rattle.xcap_server.proofs.CloseLemmas.{makes_too}
+use Rattle.unread_parts.proofs.SameChanges.{makes_too, same_fields}
 use Rattle.xcap_server.proofs.ServerStates.{StandsAt, follows_at}
 
 -- ---- only PUT and DELETE make changes
 
-abbrev is_writing : Method → Bool
+abbrev pub is_writing : Method → Bool
 is_writing Get = false
 is_writing Head = false
 is_writing Put = true
@@ -76,24 +76,24 @@ writes_by method closes c a made makes (changes_nothing reply tells same is) = l
 writes_by method closes c a made makes (changes reply tells same id change note next asks did is) = told_writes method reply.status tells
 
 -- a request that makes a change writes
-writes : (root : List ℕ) (c : StoreContents) (request : Request) (a : Answer) (made : MadeChange) → a.made ≡ Some made → IsAnswer root c request a → (is_writing (method_of request.method) ≡ true) × (is_reading (method_of request.method) ≡ false)
+pub writes : (root : List ℕ) (c : StoreContents) (request : Request) (a : Answer) (made : MadeChange) → a.made ≡ Some made → IsAnswer root c request a → (is_writing (method_of request.method) ≡ true) × (is_reading (method_of request.method) ≡ false)
 writes root c request a made makes is = writes_by (method_of request.method) request.closes c a made makes (way_of root c request a is)
 
 -- ---- decided, added to the log, and made
 
-no_edit : (edit : Option Edit) → option_map change_from_edit edit ≡ None → edit ≡ None
+pub no_edit : (edit : Option Edit) → option_map change_from_edit edit ≡ None → edit ≡ None
 no_edit None h = refl
 no_edit (Some e) h = let no : ⊥ = cc in absurd no
 
-some_edit : (edit : Option Edit) (made : MadeChange) → option_map change_from_edit edit ≡ Some made → (e : Edit) × (edit ≡ Some e)
+pub some_edit : (edit : Option Edit) (made : MadeChange) → option_map change_from_edit edit ≡ Some made → (e : Edit) × (edit ≡ Some e)
 some_edit None made h = let no : ⊥ = cc in absurd no
 some_edit (Some e) made h = (e, refl)
 
-no_made : (made : Option MadeChange) → is_some made ≡ false → made ≡ None
+pub no_made : (made : Option MadeChange) → is_some made ≡ false → made ≡ None
 no_made None h = refl
 no_made (Some m) h = let no : ⊥ = cc in absurd no
 
-some_made : (made : Option MadeChange) → is_some made ≡ true → (m : MadeChange) × (made ≡ Some m)
+pub some_made : (made : Option MadeChange) → is_some made ≡ true → (m : MadeChange) × (made ≡ Some m)
 some_made None h = let no : ⊥ = cc in absurd no
 some_made (Some m) h = (m, refl)
 
@@ -105,7 +105,7 @@ abbrev edit_as : MadeChange → Edit
 edit_as made = record { doc = made.0; note = record { previous = made.1.previous; next = made.1.next; bindings = made.1.bindings; change = made.1.change; fresh = made.1.fresh } }
 
 -- the machine accepts a request that would make a change
-accepts_so : (old : ServerState) (request : Request) (a : Answer) (made : MadeChange) → a.made ≡ Some made → IsAnswer old.root old.content request a → AcceptsRequest AnswersRequest old request
+pub accepts_so : (old : ServerState) (request : Request) (a : Answer) (made : MadeChange) → a.made ≡ Some made → IsAnswer old.root old.content request a → AcceptsRequest AnswersRequest old request
 accepts_so old request a made makes is = (
   a.reply,
   record { root = old.root; content = content_after_answer old.content (Some made) },
@@ -231,7 +231,7 @@ module _ (root : List ℕ) where
       let kept = f.0 in
       let step : Step root m request reply m' (Some e) = f.1 in
       let reads = (writes root (contents_of m) request (answer_with_edit reply (Some e)) (change_from_edit e) refl step.answers).1 in
-      let other = makes_too (change_from_edit e) request false (answer_with_edit reply (Some e)) refl root (contents_of m) reads step.answers in (
+      let other = makes_too (change_from_edit e) request false request.fields (same_fields request.fields) (answer_with_edit reply (Some e)) refl root (contents_of m) reads step.answers in (
         other.0.reply,
         (
           kept,

@@ -1,50 +1,37 @@
 -- A journal of a server has the records of requests at which the machine makes changes.
-use Rattle.std.proofs.Common.{◌≡◌, ℕ, ◌≤◌, Bool, true, false, List, [], ◌∷◌, ◌++◌, length, All, Option, None, Some, refl, sym, ap, subst, ◌∙◌, arith, append-nil, append_assoc}
+use Rattle.std.proofs.Common.{◌≡◌, ℕ, ◌≤◌, Bool, true, false, List, [], ◌∷◌, ◌++◌, length, All, Option, Some, refl, sym, ap, subst, ◌∙◌, arith, append-nil, append_assoc}
 use Rattle.std.proofs.lemmas.List.Elements.{All-nil, All-cons, All-append}
 use Rattle.std.specs.Bool.{MatchBool}
 use Rattle.http_wire.specs.declared.request.Request.{Request}
 use Rattle.edit_ops.specs.declared.edit.Edit.{Edit}
 use Rattle.reply_text.specs.ReplyHeads.{SentReply}
-use Rattle.request_checks.specs.Methods.{is_reading, method_of}
-use Rattle.request_checks.specs.declared.method.Method.{Method}
-use Rattle.request_checks.specs.declared.method.Method.TheVariants.{Get, Head, Put, Delete, Other}
+use Rattle.request_checks.specs.Methods.{method_of}
 use Rattle.edit_journal.specs.Journals.{IsPrefixOf, JournalState}
 use Rattle.edit_journal.specs.JournalLogs.{LogState}
 use Rattle.edit_journal.specs.Records.{IsRecordable, record_of, recorded_request}
 use Rattle.edit_journal.specs.JournalTexts.{IsRecordedRequest, journal_text}
 use Rattle.edit_journal.proofs.WholeRecords.{is_told, text_one_more, journal_text-append}
-use Rattle.store_core.specs.Contents.{StoreContents, contents_of}
+use Rattle.store_core.specs.Contents.{contents_of}
 use Rattle.store_core.specs.State.{State, first_state}
-use Rattle.xcap_machine.specs.Answers.{Answer, MadeChange}
-use Rattle.xcap_machine.specs.StepOutcomes.{reports_change}
+use Rattle.xcap_machine.specs.Answers.{MadeChange}
 use Rattle.xcap_machine.specs.Machine.{ValidStep, answer_with_edit, change_from_edit}
 use Rattle.xcap_machine.specs.Requests.{IsAnswer}
-use Rattle.xcap_machine.proofs.Ways.{Way, changes, stays, way_of}
+use Rattle.xcap_machine.proofs.Ways.{way_of}
 use Rattle.edit_journal.specs.LoggedRequests.{AcceptsRequest}
 use Rattle.xcap_server.specs.LoggedServers.{LogsRequests}
 use Rattle.xcap_server.specs.ReplayedRequests.{AcceptsRequests}
 use Rattle.xcap_machine.specs.ServerStates.{ServerState}
 use Rattle.xcap_server.proofs.LoggedServers.{redoing_more}
-use Rattle.xcap_server.proofs.CloseLemmas.{makes_too}
+use Rattle.unread_parts.proofs.RecordedRequests.{changes_by}
+use Rattle.unread_parts.proofs.SameChanges.{makes_too, same_fields}
 use Rattle.edit_journal.proofs.Broken.{first_of_first}
-
-tells_none : (method : Method) (status : ℕ) → reports_change method status ≡ true → is_reading method ≡ false
-tells_none Get status h = let no : ⊥ = cc in absurd no
-tells_none Head status h = let no : ⊥ = cc in absurd no
-tells_none Put status h = refl
-tells_none Delete status h = refl
-tells_none Other status h = refl
-
-changes_by : (method : Method) (closes : Bool) (c : StoreContents) (a : Answer) (made : MadeChange) → a.made ≡ Some made → Way method closes c a → is_reading method ≡ false
-changes_by method closes c a made makes (stays reply tells same is) = let no : ◌≡◌ {A = Option MadeChange} None (Some made) = sym (ap (λ (x : Answer). x.made) is) ∙ makes in absurd (let f : ⊥ = cc in f)
-changes_by method closes c a made makes (changes reply tells same id change note next asks did is) = tells_none method reply.status tells
 
 -- as its record has it, a request makes the same change
 recorded_step : (root : List ℕ) (m next : State) (request : Request) (reply : SentReply) (e : Edit) → ValidStep root m request reply next (Some e) → (reply' : SentReply) × ValidStep root m (recorded_request request) reply' next (Some e)
 recorded_step root m next request reply e step =
     let answer = answer_with_edit reply (Some e) in
     let writes = changes_by (method_of request.method) request.closes (contents_of m) answer (change_from_edit e) refl (way_of root (contents_of m) request answer step.1.answers) in
-    let other = makes_too (change_from_edit e) request false answer refl root (contents_of m) writes step.1.answers in (
+    let other = makes_too (change_from_edit e) request false request.fields (same_fields request.fields) answer refl root (contents_of m) writes step.1.answers in (
       other.0.reply,
       (
         step.0,

@@ -1,6 +1,6 @@
 -- What a server does whose accepted requests are logged. RFC 4825, section 8; the log is the
 -- project's own.
-use Rattle.std.specs.Prelude.{◌≡◌, ℕ, List, ◌++◌, Result, Ok, Err}
+use Rattle.std.specs.Prelude.{◌≡◌, List, ◌++◌, Result, Ok, Err}
 use Rattle.http_wire.specs.declared.request.Request.{Request}
 use Rattle.edit_ops.specs.declared.edit.Edit.{Edit}
 use Rattle.edit_journal.specs.Journals.{JournalState}

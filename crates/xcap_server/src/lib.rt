@@ -10,7 +10,9 @@
 //! A target outside the root is answered 404 without allocation.
 #![tactic(auto)]
 
+mod durable_service;
 mod laws;
+mod lent_answers;
 mod logged_server;
 mod logged_service;
 mod replayer;
@@ -24,5 +26,4 @@ pub use http_serve::{CloseReason, MachineReply, ServeSummary, StopReason};
 pub use laws::all_bytes_count;
 pub use logged_server::{answer_logged, serve_port_logged};
 pub use restart_laws::{journals_of_servers_come_to_a_state, servers_come_back_from_first_bytes};
-pub use server::{Server, answer, serve_connection, serve_port};
-pub use std::alloc::AllocError as NoMemory;
+pub use server::{Server, answer, answer_reading, serve_connection, serve_port};

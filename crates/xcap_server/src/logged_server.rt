@@ -31,7 +31,7 @@ use xcap_io::Port;
 /// still has them afterwards.
 ///
 /// # Errors
-/// `NoMemory` when out of memory; nothing has changed then.
+/// `AllocError` when out of memory; nothing has changed then.
 pub fn answer_logged<J: Journal>(
     server: &mut Server,
     log: &mut JournalLog,

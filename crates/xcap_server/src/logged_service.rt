@@ -12,14 +12,14 @@ use crate::service::{Service, commit};
 use edit_journal::{AppendFault, Journal, JournalLog, LoggedMachine};
 use edit_ops::Edit;
 use http_serve::MachineReply;
-use http_wire::Request;
+use http_wire::{LentReply, Request};
 use reply_text::Reply;
 use std::alloc::AllocError;
 use store_core::Store;
 use xcap_put::Decision;
 
 // Whether a decision makes a change.
-fn has_change(decision: &Decision) -> bool
+pub(crate) fn has_change(decision: &Decision) -> bool
     ensures exact { result ≡ is_some (answer_of decision.now).made }
 {
     match decision {
@@ -55,7 +55,7 @@ fn answer_without_change(
 }
 
 // Carries out a decision, by the result of adding the request's record.
-fn carry_out(
+pub(crate) fn carry_out(
     store: &mut Store,
     decision: Decision,
     entered: Result<(), AppendFault>,
@@ -82,6 +82,13 @@ impl LoggedMachine for Service {
     type Edit = Edit;
 
     ghost steps = { AnswersRequest };
+
+    fn answer_reading<'a>(
+        &'a self,
+        request: &Request,
+    ) -> Result<Option<LentReply<'a>>, AllocError> {
+        self.lend(request)
+    }
 
     fn answer_logged<J: Journal>(
         &mut self,

@@ -223,7 +223,7 @@ fn decide_method(
 
 // ---- all in order
 
-fn is_permitted(target: &Target, method: Method, request: &Request) -> bool
+pub(crate) fn is_permitted(target: &Target, method: Method, request: &Request) -> bool
     ensures allowed_by_right { result
         ≡ is_allowed (not (is_reading method)) (auid_of target.now)
         (home_of target.now) request.now.fields }

@@ -12,13 +12,14 @@ ghost use Rattle.xcap_machine.specs.SubscriberVersions.{UpdatesAllSubscribers};
 ghost use Rattle.http_serve.specs.ServedStreams.{ServesStream};
 ghost use Rattle.http_serve.specs.ServedPorts.{ServesPort};
 ghost use Rattle.http_serve.specs.ReplyBytes.{StepsInBytes};
+ghost use Rattle.xcap_get.specs.LentReplies.{LendsFoundReply};
 
 use crate::service::Service;
 use edit_ops::Edit;
 use http_serve::{
     CloseReason, ConnectionBuffers, MachineReply, ServeSummary, serve_stream, serve_streams,
 };
-use http_wire::Request;
+use http_wire::{LentReply, Request};
 use std::alloc::{AllocError, Global};
 use std::marker::Model;
 use store_core::Store;
@@ -54,7 +55,7 @@ impl Server {
     /// documents, which are allocated from `alloc` later.
     ///
     /// # Errors
-    /// `NoMemory` when out of memory.
+    /// `AllocError` when out of memory.
     pub fn new(alloc: Global, root: &Root, first: u64) -> Result<Server, AllocError>
         requires positive { 1 ≤ first }
         ensures given_root { IfOk result (λ server. server.root ≡ root.now) }
@@ -90,7 +91,7 @@ impl Server {
 /// the document's version. A request whose target is outside the root doesn't allocate.
 ///
 /// # Errors
-/// `NoMemory` when out of memory; the server is then as before.
+/// `AllocError` when out of memory; the server is then as before.
 pub fn answer(server: &mut Server, request: &Request) -> Result<MachineReply<Edit>, AllocError>
     ensures machine_step { IfOk result
         (λ answered. (m : State) → IsValidState m → Represents server.old.content m
@@ -117,6 +118,21 @@ pub fn answer(server: &mut Server, request: &Request) -> Result<MachineReply<Edi
     server.service.is_rooted();
     server.service.represents_valid_state();
     server.service.respond(request)
+}
+
+/// The reply to a GET of a stored document, or of an element in one, where that has status 200: its
+/// body is lent by the server, and takes no memory. None exactly for other requests and replies.
+///
+/// # Errors
+/// `AllocError` when out of memory for the target and the conditions of the request.
+pub fn answer_reading<'a>(
+    server: &'a Server,
+    request: &Request,
+) -> Result<Option<LentReply<'a>>, AllocError>
+    ensures lends_found { IfOk result (λ lent.
+        LendsFoundReply server.now.root server.now.content request.now lent) }
+{
+    server.service.lend(request)
 }
 
 /// Serves a connection: each request is read and answered, watchers are notified where it made a

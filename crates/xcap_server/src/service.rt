@@ -6,13 +6,15 @@ ghost use Rattle.store_core.specs.Contents.{Represents};
 ghost use Rattle.store_core.specs.ValidStates.{IsValidState};
 ghost use Rattle.store_core.specs.State.{State};
 ghost use Rattle.xcap_machine.specs.Machine.{answer_with_edit, content_after_answer};
+ghost use Rattle.xcap_get.specs.LentReplies.{LendsFoundReply};
 ghost use Rattle.xcap_put.specs.Decisions.{IsReadyFor, answer_of};
 ghost use Rattle.xcap_server.specs.inner.ServerSteps.{AnswersRequest, IsUnchanged};
 
+use crate::lent_answers::lend_answer;
 use crate::request_decisions::decide;
 use edit_ops::Edit;
 use http_serve::{Machine, MachineReply};
-use http_wire::Request;
+use http_wire::{LentReply, Request};
 use std::alloc::{AllocError, Global};
 use std::marker::Model;
 use store_core::Store;
@@ -94,6 +96,14 @@ impl Service {
         let decision = decide(self.alloc, &self.root, &mut self.store, request)?;
         Ok(commit(&mut self.store, decision))
     }
+
+    // The reply to a GET of a stored document, or of an element in one, with its body lent.
+    pub(crate) fn lend<'a>(&'a self, request: &Request) -> Result<Option<LentReply<'a>>, AllocError>
+        ensures lends_found { IfOk result (λ lent.
+            LendsFoundReply self.now.root self.now.content request.now lent) }
+    {
+        lend_answer(self.alloc, &self.root, &self.store, request)
+    }
 }
 
 // Commits the change of a decision, if there is one. Does not allocate.
@@ -124,6 +134,13 @@ impl Machine for Service {
 
     // any number of requests
     ghost takes = { λ _ _. Unit {0} };
+
+    fn answer_reading<'a>(
+        &'a self,
+        request: &Request,
+    ) -> Result<Option<LentReply<'a>>, AllocError> {
+        self.lend(request)
+    }
 
     fn answer(&mut self, request: &Request) -> Result<MachineReply<Edit>, AllocError> {
         self.respond(request)

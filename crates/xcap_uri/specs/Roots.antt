@@ -61,11 +61,11 @@ are_root_parts (scheme ∷ [] ∷ authority ∷ segments) =
     && list_all (is_one_or_more is_segment_char) segments
 are_root_parts _ = false
 
--- the text is a root
+-- a root: an absolute URI of at most `MAX_ROOT_LEN` bytes
 abbrev pub is_root_text : List ℕ → Bool
 is_root_text text = nat_le (length text) MAX_ROOT_LEN && are_root_parts (pieces slash text)
 
--- the third piece
+-- what stands between the second slash and the third
 abbrev pub third_piece : List (List ℕ) → List ℕ
 third_piece (first ∷ second ∷ piece ∷ others) = piece
 third_piece _ = []

@@ -11,13 +11,13 @@ ghost use Rattle.xcap_uri.specs.Ancestors.{ancestor_uri, bracket_escape, home_ur
 use crate::root::Root;
 use doc_names::{Auid, DocId, Home, print_doc_id};
 use node_select::{Selector, longest_match, select_steps};
-use std::alloc::Global;
-use xml_names::{NoMemory, Text};
+use std::alloc::{AllocError, Global};
+use xml_names::Text;
 use xml_tokens::empty_text;
 use xml_tree::{Element, Path, print_path};
 
 // The root, a slash and this path.
-fn uri_under(alloc: Global, root: &Root, path: &str) -> Result<Text, NoMemory>
+fn uri_under(alloc: Global, root: &Root, path: &str) -> Result<Text, AllocError>
     ensures ok { IfOk result (λ uri. uri ≡ root.now ++ (codes "/" ++ chars path.now)) }
 {
     let mut uri = Text::from(alloc, root.text())?;
@@ -37,7 +37,7 @@ fn drop_last_char(text: &str) -> &str
 }
 
 // The id of a document with an empty name: its home's and a slash.
-fn unnamed_id(alloc: Global, auid: Auid, home: &Home) -> Result<Text, NoMemory>
+fn unnamed_id(alloc: Global, auid: Auid, home: &Home) -> Result<Text, AllocError>
     ensures ok { IfOk result
         (λ id. id ≡ id_text (record { auid = auid; home = home.now; name = [] })) }
 {
@@ -53,8 +53,8 @@ fn unnamed_id(alloc: Global, auid: Auid, home: &Home) -> Result<Text, NoMemory>
 /// The URI of a home: the root, the AUID, and `global` or `users` and the user, escaped.
 ///
 /// # Errors
-/// `NoMemory` when out of memory.
-pub fn home_uri(alloc: Global, root: &Root, auid: Auid, home: &Home) -> Result<Text, NoMemory>
+/// `AllocError` when out of memory.
+pub fn home_uri(alloc: Global, root: &Root, auid: Auid, home: &Home) -> Result<Text, AllocError>
     ensures ok { IfOk result (λ uri. uri ≡ home_uri root.now auid home.now) }
 {
     let id = unnamed_id(alloc, auid, home)?;
@@ -62,7 +62,7 @@ pub fn home_uri(alloc: Global, root: &Root, auid: Auid, home: &Home) -> Result<T
 }
 
 // The URI of a document.
-fn document_uri(alloc: Global, root: &Root, doc: &DocId) -> Result<Text, NoMemory>
+fn document_uri(alloc: Global, root: &Root, doc: &DocId) -> Result<Text, AllocError>
     ensures ok { IfOk result (λ uri. uri ≡ root.now ++ (codes "/" ++ id_text doc.now)) }
 {
     let id = print_doc_id(alloc, doc)?;
@@ -71,7 +71,7 @@ fn document_uri(alloc: Global, root: &Root, doc: &DocId) -> Result<Text, NoMemor
 
 // Appends a character of a node selector.
 #[tactic(auto, using(crate::proofs::Letters::letters))]
-fn push_escaped(uri: &mut Text, c: char) -> Result<(), NoMemory>
+fn push_escaped(uri: &mut Text, c: char) -> Result<(), AllocError>
     ensures appended { OnOk result (uri.new ≡ uri.old ++ bracket_escape c) }
 {
     match c {
@@ -82,7 +82,7 @@ fn push_escaped(uri: &mut Text, c: char) -> Result<(), NoMemory>
 }
 
 // Appends a node selector.
-fn push_selector(uri: &mut Text, selector: &str) -> Result<(), NoMemory>
+fn push_selector(uri: &mut Text, selector: &str) -> Result<(), AllocError>
     ensures appended { OnOk result
         (uri.new ≡ uri.old ++ flat_map bracket_escape (chars selector.now)) }
 {
@@ -94,7 +94,7 @@ fn push_selector(uri: &mut Text, selector: &str) -> Result<(), NoMemory>
 
 // Appends what comes after the document's URI in the URI of the element at a path.
 #[tactic(auto, using(crate::proofs::Letters::letters, std::proofs::Common::append_assoc))]
-fn push_path(alloc: Global, uri: &mut Text, path: &Path) -> Result<(), NoMemory>
+fn push_path(alloc: Global, uri: &mut Text, path: &Path) -> Result<(), AllocError>
     ensures appended { OnOk result
         (uri.new ≡ uri.old ++ (codes "/~~/" ++ flat_map bracket_escape (path_text path.now))) }
 {
@@ -119,14 +119,14 @@ fn closest_path(alloc: Global, tree: &Element, selector: &Selector) -> Option<Pa
 /// The element is named by its position, as `*/*[2]` with its brackets escaped.
 ///
 /// # Errors
-/// `NoMemory` when out of memory.
+/// `AllocError` when out of memory.
 pub fn ancestor_uri(
     alloc: Global,
     root: &Root,
     doc: &DocId,
     tree: &Element,
     selector: &Selector,
-) -> Result<Text, NoMemory>
+) -> Result<Text, AllocError>
     requires { height tree.now ≤ MAX_LEVELS }
     ensures ok { IfOk result
         (λ uri. uri ≡ ancestor_uri root.now doc.now tree.now selector.now.steps) }

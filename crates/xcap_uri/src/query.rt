@@ -223,11 +223,11 @@ fn parse_uri_chars(alloc: Global, text: &[char]) -> Result<(Text, &[char]), Read
     'chars: loop {
         match uri_step(depth, rest) {
             UriStep::Breaks => return Err(ReadError::Fault(UriFault::BadQuery)),
-            UriStep::Ends(behind) => return Ok((uri, behind)),
-            UriStep::Goes(c, still_deep, behind) => {
+            UriStep::Ends(after) => return Ok((uri, after)),
+            UriStep::Goes(c, still_deep, after) => {
                 uri.push(c)?;
                 depth = still_deep;
-                rest = behind;
+                rest = after;
             }
         }
     }

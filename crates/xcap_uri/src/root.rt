@@ -63,7 +63,7 @@ impl Root {
     /// A copy of the root.
     ///
     /// # Errors
-    /// `NoMemory` when out of memory.
+    /// `AllocError` when out of memory.
     pub fn copy(&self, alloc: Global) -> Result<Root, AllocError>
         ensures equal_copy { IfOk result (λ made. made ≡ self.now) }
     {
@@ -135,11 +135,11 @@ fn are_segments(text: &[u8]) -> bool
 {
     let mut rest = text;
     'segments: loop {
-        let (segment, behind) = cut(rest, b'/');
+        let (segment, after) = cut(rest, b'/');
         if !is_segment(segment) {
             return false;
         }
-        match behind {
+        match after {
             None => return true,
             Some(tail) => rest = tail,
         }
@@ -161,11 +161,11 @@ fn strip_scheme(text: &[u8]) -> Option<&[u8]>
 fn are_authority_and_segments(rest: &[u8]) -> bool
     ensures exact { result ≡ are_authority_and_segments (pieces slash rest.now) }
 {
-    let (authority, behind) = cut(rest, b'/');
+    let (authority, after) = cut(rest, b'/');
     if !is_authority(authority) {
         return false;
     }
-    match behind {
+    match after {
         None => true,
         Some(segments) => are_segments(segments),
     }

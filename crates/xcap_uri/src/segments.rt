@@ -20,10 +20,10 @@ fn is_separator(segment: &Text) -> bool
 }
 
 // The text after a segment, empty where the path ends.
-fn or_empty(behind: Option<&[u8]>) -> &[u8]
-    ensures exact { result.now ≡ unwrap_or (option_map (λ x. x.now) behind.entry) [] }
+fn or_empty(after: Option<&[u8]>) -> &[u8]
+    ensures exact { result.now ≡ unwrap_or (option_map (λ x. x.now) after.entry) [] }
 {
-    match behind {
+    match after {
         None => &[],
         Some(tail) => tail,
     }
@@ -45,13 +45,13 @@ pub fn read_path(
     let mut segments = Vec::new(alloc);
     let mut rest = path;
     'segments: loop {
-        let (raw, behind) = cut(rest, b'/');
+        let (raw, after) = cut(rest, b'/');
         let segment = read_part(alloc, raw)?;
         if is_separator(&segment) {
-            return Ok((segments, Some(or_empty(behind))));
+            return Ok((segments, Some(or_empty(after))));
         }
         segments.push(segment)?;
-        match behind {
+        match after {
             None => return Ok((segments, None)),
             Some(tail) => rest = tail,
         }

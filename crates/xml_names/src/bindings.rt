@@ -37,7 +37,7 @@ fn binds_prefix(decl: &Decl) -> bool
 /// default first, then the prefixes by code point.
 ///
 /// # Errors
-/// `NoMemory` when out of memory.
+/// `AllocError` when out of memory.
 #[tactic(auto, using(crate::proofs::BindingWords::gathered_are))]
 pub fn in_scope_bindings(alloc: Global, lists: &[&[Decl]]) -> Result<Vec<Decl>, AllocError>
     ensures ok { IfOk result (λ made. made.items ≡ in_scope_bindings (map (λ x. x.now) lists.now)) }

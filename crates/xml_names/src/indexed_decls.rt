@@ -53,7 +53,7 @@ impl<'a> IndexedDecls<'a> {
     /// The declarations, with an index where there are more than `FEW`.
     ///
     /// # Errors
-    /// `NoMemory` when out of memory.
+    /// `AllocError` when out of memory.
     pub fn with_index(alloc: Global, decls: &'a [Decl]) -> Result<IndexedDecls<'a>, AllocError>
         ensures holds_declarations { IfOk result (λ made. made ≡ decls.now) }
     {

@@ -39,6 +39,5 @@ pub use read_error::ReadError;
 pub use references::{text_reference, value_reference};
 pub use scope_laws::bindings_are_those_of_the_scope;
 pub use small_text::SmallText;
-pub use std::alloc::AllocError as NoMemory;
 pub use tag_lengths::{attr_len, attrs_len, decl_len, decls_len, name_len};
 pub use text::Text;

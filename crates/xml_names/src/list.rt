@@ -56,7 +56,7 @@ impl<T> List<T> {
     /// Appends an item.
     ///
     /// # Errors
-    /// `NoMemory` when out of memory; the list is then unchanged.
+    /// `AllocError` when out of memory; the list is then unchanged.
     pub fn push(&mut self, item: T) -> Result<(), AllocError>
     where
         T: Drop,

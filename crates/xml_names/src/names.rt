@@ -39,7 +39,7 @@ impl Name {
     /// An equal name.
     ///
     /// # Errors
-    /// `NoMemory` when out of memory.
+    /// `AllocError` when out of memory.
     pub fn copy(&self, alloc: Global) -> Result<Name, AllocError>
         ensures equal_copy { IfOk result (λ made. made ≡ self.now) }
     {
@@ -68,7 +68,7 @@ impl Decl {
     /// An equal declaration.
     ///
     /// # Errors
-    /// `NoMemory` when out of memory.
+    /// `AllocError` when out of memory.
     pub fn copy(&self, alloc: Global) -> Result<Decl, AllocError>
         ensures equal_copy { IfOk result (λ made. made ≡ self.now) }
     {
@@ -89,7 +89,7 @@ impl Attr {
     /// An equal attribute.
     ///
     /// # Errors
-    /// `NoMemory` when out of memory.
+    /// `AllocError` when out of memory.
     pub fn copy(&self, alloc: Global) -> Result<Attr, AllocError>
         ensures equal_copy { IfOk result (λ made. made ≡ self.now) }
     {
@@ -139,7 +139,7 @@ pub fn same_attrs(a: &[Attr], b: &[Attr]) -> bool
 /// Equal declarations.
 ///
 /// # Errors
-/// `NoMemory` when out of memory.
+/// `AllocError` when out of memory.
 pub fn copy_decls(alloc: Global, decls: &[Decl]) -> Result<Vec<Decl>, AllocError>
     ensures equal_copy { IfOk result (λ made. made.items ≡ decls.now) }
 {
@@ -165,7 +165,7 @@ pub(crate) fn push_decl_copy(
 /// Appends a declaration.
 ///
 /// # Errors
-/// `NoMemory` when out of memory; the list is then unchanged.
+/// `AllocError` when out of memory; the list is then unchanged.
 pub fn push_decl(decls: &mut Vec<Decl>, decl: Decl) -> Result<(), AllocError>
     ensures adds_declaration { OnOk result (decls.new.items ≡ decls.old.items ++ decl ∷ []) }
     ensures err_unchanged { OnErr result (decls.new.items ≡ decls.old.items) }
@@ -177,7 +177,7 @@ pub fn push_decl(decls: &mut Vec<Decl>, decl: Decl) -> Result<(), AllocError>
 /// Equal attributes.
 ///
 /// # Errors
-/// `NoMemory` when out of memory.
+/// `AllocError` when out of memory.
 pub fn copy_attrs(alloc: Global, attrs: &[Attr]) -> Result<Vec<Attr>, AllocError>
     ensures equal_copy { IfOk result (λ made. made.items ≡ attrs.now) }
 {

@@ -40,7 +40,7 @@ impl<const N: usize> SmallText<N> {
     /// A copy of a text.
     ///
     /// # Errors
-    /// `NoMemory` when out of memory.
+    /// `AllocError` when out of memory.
     pub fn from(alloc: Global, text: &str) -> Result<SmallText<N>, AllocError>
         requires within_max { N ≤ 64 }
         ensures same_chars { IfOk result (λ made. made ≡ chars text.now) }
@@ -59,7 +59,7 @@ impl<const N: usize> SmallText<N> {
     /// costs the same whatever its length.
     ///
     /// # Errors
-    /// `NoMemory` when out of memory.
+    /// `AllocError` when out of memory.
     #[inline(always)]
     pub fn from_front(alloc: Global, text: &str, bytes: &[u8]) -> Result<SmallText<N>, AllocError>
         requires within_max { N ≤ 64 }
@@ -106,7 +106,7 @@ impl<const N: usize> SmallText<N> {
     /// An equal text.
     ///
     /// # Errors
-    /// `NoMemory` when out of memory.
+    /// `AllocError` when out of memory.
     pub fn copy(&self, alloc: Global) -> Result<SmallText<N>, AllocError>
         ensures equal_text { IfOk result (λ made. made ≡ self.now) }
     {

@@ -31,7 +31,7 @@ impl Text {
     /// A copy of a text.
     ///
     /// # Errors
-    /// `NoMemory` when out of memory.
+    /// `AllocError` when out of memory.
     pub fn from(alloc: Global, text: &str) -> Result<Text, AllocError>
         ensures same_chars { IfOk result (λ made. made ≡ chars text.now) }
     {
@@ -43,7 +43,7 @@ impl Text {
     /// text costs the same whatever its length.
     ///
     /// # Errors
-    /// `NoMemory` when out of memory.
+    /// `AllocError` when out of memory.
     pub fn from_front(alloc: Global, text: &str, bytes: &[u8]) -> Result<Text, AllocError>
         requires { text.now ≡ take (length text.now) bytes.now }
         ensures same_chars { IfOk result (λ made. made ≡ chars text.now) }
@@ -64,7 +64,7 @@ impl Text {
     /// The empty text, with capacity for `bytes` bytes.
     ///
     /// # Errors
-    /// `NoMemory` when out of memory.
+    /// `AllocError` when out of memory.
     pub fn with_capacity(alloc: Global, bytes: usize) -> Result<Text, AllocError>
         ensures holds_no_characters { IfOk result (λ made. made ≡ []) }
     {
@@ -83,7 +83,7 @@ impl Text {
     /// An equal text.
     ///
     /// # Errors
-    /// `NoMemory` when out of memory.
+    /// `AllocError` when out of memory.
     pub fn copy(&self, alloc: Global) -> Result<Text, AllocError>
         ensures equal_text { IfOk result (λ made. made ≡ self.now) }
     {
@@ -94,7 +94,7 @@ impl Text {
     /// Appends a text.
     ///
     /// # Errors
-    /// `NoMemory` when out of memory; the text is then unchanged.
+    /// `AllocError` when out of memory; the text is then unchanged.
     pub fn push_str(&mut self, text: &str) -> Result<(), AllocError>
         ensures appends_chars { OnOk result (self.new ≡ self.old ++ chars text.now) }
         ensures err_unchanged { OnErr result (self.new ≡ self.old) }
@@ -105,7 +105,7 @@ impl Text {
     /// Appends a character.
     ///
     /// # Errors
-    /// `NoMemory` when out of memory; the text is then unchanged.
+    /// `AllocError` when out of memory; the text is then unchanged.
     pub fn push(&mut self, c: char) -> Result<(), AllocError>
         ensures appended { OnOk result (self.new ≡ self.old ++ c ∷ []) }
         ensures err_unchanged { OnErr result (self.new ≡ self.old) }

@@ -266,7 +266,7 @@ fn has_no_controls(run: &str) -> bool
 /// Appends raw characters of a value, as read.
 ///
 /// # Errors
-/// `NoMemory` when out of memory.
+/// `AllocError` when out of memory.
 pub fn push_raw(value: &mut Text, run: &str) -> Result<(), AllocError>
     ensures appended { OnOk result (value.new ≡ value.old ++ normalized_raw (chars run.now)) }
 {
@@ -307,7 +307,7 @@ pub fn reference_follows(text: &str) -> bool
 /// Appends a character from a reference, and the raw characters after it.
 ///
 /// # Errors
-/// `NoMemory` when out of memory.
+/// `AllocError` when out of memory.
 pub fn push_reference_piece(value: &mut Text, c: char, run: &str) -> Result<(), AllocError>
     ensures appended { OnOk result (value.new ≡ value.old ++ (c ∷ normalized_raw (chars run.now))) }
 {

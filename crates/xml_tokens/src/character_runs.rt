@@ -167,8 +167,8 @@ pub fn up_to<'a>(text: &'a str, end: &[char]) -> Result<(&'a str, &'a str), Pars
 {
     let mut rest = text;
     'each: while let Some((c, after)) = split_first(rest) {
-        if let Some(behind) = strip_word(rest, end) {
-            return Ok((text_before(text, rest), behind));
+        if let Some(rest_after) = strip_word(rest, end) {
+            return Ok((text_before(text, rest), rest_after));
         }
         if !is_char(c) {
             return Err(ParseError::Syntax(rest));
@@ -205,7 +205,7 @@ fn has_no_return(run: &str) -> bool
 /// The text that a run is read as, with LF for each line end.
 ///
 /// # Errors
-/// `NoMemory` when out of memory.
+/// `AllocError` when out of memory.
 pub fn normalize_lines(alloc: Global, run: &str) -> Result<Text, AllocError>
     ensures ok { IfOk result (λ text. text ≡ normalize_line_ends (chars run.now)) }
 {

@@ -190,7 +190,7 @@ fn prefix_of(alloc: Global, name: &RawName<'_>) -> Result<Prefix, AllocError>
 /// The name as an owned `Name`.
 ///
 /// # Errors
-/// `NoMemory` when out of memory.
+/// `AllocError` when out of memory.
 pub fn to_owned_name(alloc: Global, name: &RawName<'_>) -> Result<Name, AllocError>
     ensures ok { IfOk result (λ to_owned_name. to_owned_name ≡ raw_name_view name.now) }
 {

@@ -99,7 +99,7 @@ fn push_chunks(text: &mut Text, chars: &[char]) -> Result<(), AllocError>
 /// A text of these characters.
 ///
 /// # Errors
-/// `NoMemory` when out of memory.
+/// `AllocError` when out of memory.
 pub fn text_of(alloc: Global, chars: &[char]) -> Result<Text, AllocError>
     ensures ok { IfOk result (λ text. text ≡ chars.now) }
 {
@@ -122,7 +122,7 @@ fn text_in_chunks(alloc: Global, chars: &[char]) -> Result<Text, AllocError>
 /// A part of a name of these characters.
 ///
 /// # Errors
-/// `NoMemory` when out of memory.
+/// `AllocError` when out of memory.
 pub fn name_part<const N: usize>(alloc: Global, chars: &[char]) -> Result<SmallText<N>, AllocError>
     requires within_max { N ≤ 64 }
     ensures ok { IfOk result (λ part. part ≡ chars.now) }
@@ -153,7 +153,7 @@ fn chars_of_ascii(alloc: Global, bytes: &[u8]) -> Result<Vec<char>, AllocError>
 /// The characters of a text.
 ///
 /// # Errors
-/// `NoMemory` when out of memory.
+/// `AllocError` when out of memory.
 pub fn chars_of_text(alloc: Global, text: &str) -> Result<Vec<char>, AllocError>
     ensures same_chars { IfOk result (λ all. all.items ≡ chars text.now) }
 {

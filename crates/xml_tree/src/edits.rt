@@ -26,7 +26,7 @@ impl Element {
     /// `j`-th child element.
     ///
     /// # Errors
-    /// `NoMemory` when out of memory. The element comes back, and this one is unchanged.
+    /// `AllocError` when out of memory. The element comes back, and this one is unchanged.
     pub fn put_kid(&mut self, gap: usize, element: Element) -> Result<(), (AllocError, Element)>
         requires { gap ≤ length (child_elements_of self.old) }
         ensures puts_element { OnOk result (self.new ≡ put_kid gap element self.old) }
@@ -39,7 +39,7 @@ impl Element {
     /// Removes a child element, counted from 0, and joins texts that meet.
     ///
     /// # Errors
-    /// `NoMemory` when out of memory, possible only if texts are directly on both sides of the
+    /// `AllocError` when out of memory, possible only if texts are directly on both sides of the
     /// element. Nothing has changed then.
     pub fn take_kid(&mut self, child: usize) -> Result<Element, AllocError>
         requires { child < length (child_elements_of self.old) }
@@ -56,7 +56,7 @@ impl Element {
     /// ones are dropped.
     ///
     /// # Errors
-    /// `NoMemory` when out of memory; the element is then unchanged.
+    /// `AllocError` when out of memory; the element is then unchanged.
     pub fn exchange_nodes(
         &mut self,
         from: usize,
@@ -108,7 +108,7 @@ impl Element {
     /// returns the old value.
     ///
     /// # Errors
-    /// `NoMemory` when out of memory, possible only for a new attribute. The element is then
+    /// `AllocError` when out of memory, possible only for a new attribute. The element is then
     /// unchanged.
     pub fn set_attr(&mut self, name: Name, value: Text) -> Result<Option<Text>, AllocError>
         ensures former_value { IfOk result
@@ -136,7 +136,7 @@ impl Element {
     /// Inserts an element into a gap of the element at a path.
     ///
     /// # Errors
-    /// `NoMemory` when out of memory. The element comes back, and the tree is unchanged.
+    /// `AllocError` when out of memory. The element comes back, and the tree is unchanged.
     pub fn put_in(
         &mut self,
         path: &Path,
@@ -205,7 +205,7 @@ impl Element {
     /// Removes the element at a path, which isn't the root, and joins texts that meet.
     ///
     /// # Errors
-    /// `NoMemory` when out of memory, possible only if texts are directly on both sides of the
+    /// `AllocError` when out of memory, possible only if texts are directly on both sides of the
     /// element. Nothing has changed then.
     pub fn cut_out(&mut self, path: &Path) -> Result<Element, AllocError>
         requires below { 0 < length path.now }
@@ -224,7 +224,7 @@ impl Element {
     /// Writes an attribute of the element at a path, as `set_attr` does.
     ///
     /// # Errors
-    /// `NoMemory` when out of memory, possible only for a new attribute. The tree is then
+    /// `AllocError` when out of memory, possible only for a new attribute. The tree is then
     /// unchanged.
     pub fn set_attr_at(
         &mut self,

@@ -41,4 +41,4 @@ pub use proper_laws::{
 pub use scope::{SCOPE_LIMIT, Scope};
 pub use tree::{Element, Node};
 pub use tree_copies::{copy_nodes, copy_tree, depth, equal};
-pub use xml_names::{Attr, Decl, Name, NoMemory, Text, is_char, is_name, is_space};
+pub use xml_names::{Attr, Decl, Name, Text, is_char, is_name, is_space};

@@ -10,7 +10,7 @@ impl Element {
     /// joined, and empty ones are dropped.
     ///
     /// # Errors
-    /// `NoMemory` when out of memory; the element is then unchanged.
+    /// `AllocError` when out of memory; the element is then unchanged.
     pub fn insert_nodes(&mut self, before: usize, nodes: Vec<Node>) -> Result<(), AllocError>
         requires { before ≤ length (nodes_of self.old.content) }
         ensures ok { OnOk result (self.new ≡ exchange_nodes before before nodes.items self.old) }
@@ -22,7 +22,7 @@ impl Element {
     /// Removes the nodes from one place to before another. Texts that meet are joined.
     ///
     /// # Errors
-    /// `NoMemory` when out of memory; the element is then unchanged.
+    /// `AllocError` when out of memory; the element is then unchanged.
     pub fn cut_nodes(&mut self, from: usize, to: usize) -> Result<(), AllocError>
         requires range_ordered { from ≤ to }
         requires within { to ≤ length (nodes_of self.old.content) }

@@ -232,11 +232,11 @@ fn joined_neighbor_texts(
     let Some(before) = text_at(nodes, place - 1) else {
         return Ok(None);
     };
-    let Some(behind) = text_at(nodes, place + 1) else {
+    let Some(next) = text_at(nodes, place + 1) else {
         return Ok(None);
     };
     let mut text = before.copy(alloc)?;
-    text.push_str(behind.as_str())?;
+    text.push_str(next.as_str())?;
     Ok(Some(text))
 }
 

@@ -10,7 +10,7 @@ use xml_names::Text;
 /// from 1.
 ///
 /// # Errors
-/// `NoMemory` when out of memory.
+/// `AllocError` when out of memory.
 pub fn print_path(alloc: Global, path: &Path) -> Result<Text, AllocError>
     ensures ok { IfOk result (λ text. text ≡ path_text path.now) }
 {

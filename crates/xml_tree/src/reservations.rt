@@ -8,7 +8,7 @@ impl Element {
     /// Reserves capacity for `more` attributes, and for no others. The element is unchanged.
     ///
     /// # Errors
-    /// `NoMemory` when out of memory.
+    /// `AllocError` when out of memory.
     pub fn reserve_attrs(&mut self, more: usize) -> Result<(), AllocError>
         ensures changes_nothing { self.new ≡ self.old }
     {
@@ -18,7 +18,7 @@ impl Element {
     /// Reserves capacity for one more node, and for no others. The element is unchanged.
     ///
     /// # Errors
-    /// `NoMemory` when out of memory.
+    /// `AllocError` when out of memory.
     pub fn reserve_node(&mut self) -> Result<(), AllocError>
         ensures changes_nothing { self.new ≡ self.old }
     {

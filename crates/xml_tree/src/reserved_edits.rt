@@ -26,7 +26,7 @@ impl Element {
     /// if there are not two. The child exists.
     ///
     /// # Errors
-    /// `NoMemory` when out of memory, possible only where there are two.
+    /// `AllocError` when out of memory, possible only where there are two.
     pub fn joined_texts_around(
         &self,
         alloc: Global,

@@ -109,7 +109,7 @@ impl<'a> Scope<'a> {
     /// by code point.
     ///
     /// # Errors
-    /// `NoMemory` when out of memory.
+    /// `AllocError` when out of memory.
     pub fn bindings(&self, alloc: Global) -> Result<Vec<Decl>, AllocError>
         ensures ok { IfOk result (λ made. made.items ≡ in_scope_bindings self.now) }
     {

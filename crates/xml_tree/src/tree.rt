@@ -80,7 +80,7 @@ impl Element {
     /// Appends a declaration.
     ///
     /// # Errors
-    /// `NoMemory` when out of memory; the element is then unchanged, as at each call below.
+    /// `AllocError` when out of memory; the element is then unchanged, as at each call below.
     pub fn push_decl(&mut self, decl: Decl) -> Result<(), AllocError>
         ensures adds_declaration { OnOk result
             (self.new ≡ record self.old { decls = self.old.decls ++ decl ∷ [] }) }
@@ -92,7 +92,7 @@ impl Element {
     /// Appends an attribute.
     ///
     /// # Errors
-    /// `NoMemory` when out of memory.
+    /// `AllocError` when out of memory.
     pub fn push_attr(&mut self, attr: Attr) -> Result<(), AllocError>
         ensures adds_attribute { OnOk result
             (self.new ≡ record self.old { attrs = self.old.attrs ++ attr ∷ [] }) }
@@ -104,7 +104,7 @@ impl Element {
     /// Appends an element.
     ///
     /// # Errors
-    /// `NoMemory` when out of memory.
+    /// `AllocError` when out of memory.
     #[inline(always)]
     pub fn push_elem(&mut self, element: Element) -> Result<(), AllocError>
         ensures adds_element { OnOk result
@@ -117,7 +117,7 @@ impl Element {
     /// Appends a text. It joins a text that is the last node, and an empty text is ignored.
     ///
     /// # Errors
-    /// `NoMemory` when out of memory.
+    /// `AllocError` when out of memory.
     pub fn push_chars(&mut self, text: &str) -> Result<(), AllocError>
         ensures appends_chars { OnOk result
             (self.new ≡ record self.old { content = with_text (chars text.now) self.old.content }) }
@@ -129,7 +129,7 @@ impl Element {
     /// Appends a text, as `push_chars` does, and copies it only where it joins another.
     ///
     /// # Errors
-    /// `NoMemory` when out of memory.
+    /// `AllocError` when out of memory.
     #[inline(always)]
     pub fn push_text(&mut self, text: Text) -> Result<(), AllocError>
         ensures adds_text { OnOk result
@@ -143,7 +143,7 @@ impl Element {
     /// in `-`.
     ///
     /// # Errors
-    /// `NoMemory` when out of memory.
+    /// `AllocError` when out of memory.
     pub fn push_comment(&mut self, text: Text) -> Result<(), AllocError>
         requires { IsTrue (is_comment text) }
         ensures adds_comment { OnOk result

@@ -23,7 +23,7 @@ pub fn depth(element: &Element) -> usize
 /// A copy of a tree.
 ///
 /// # Errors
-/// `NoMemory` when out of memory.
+/// `AllocError` when out of memory.
 #[cycle(copy)]
 pub fn copy_tree(alloc: Global, element: &Element) -> Result<Element, AllocError>
     ensures equal_copy { IfOk result (λ made. made ≡ element.now) }
@@ -52,7 +52,7 @@ fn copy_tag(alloc: Global, element: &Element) -> Result<Element, AllocError>
 /// Copies of nodes, in their order.
 ///
 /// # Errors
-/// `NoMemory` when out of memory.
+/// `AllocError` when out of memory.
 #[cycle(copy)]
 pub fn copy_nodes(alloc: Global, nodes: &[Node]) -> Result<Vec<Node>, AllocError>
     ensures equal_copy { IfOk result (λ made. made.items ≡ nodes.now) }

@@ -18,5 +18,5 @@ tag_view text t raw_attribute =
       name = raw_name_view t.written;
       raw_attribute = raw_attribute;
       is_empty = t.is_empty;
-      size = length text - length (chars t.behind.now);
+      size = length text - length (chars t.after.now);
     }

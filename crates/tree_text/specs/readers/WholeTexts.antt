@@ -44,8 +44,8 @@ read_body_text bytes =
 
 -- the error that the code makes of a stop in a body after whose spelling this many bytes follow
 abbrev pub IsBodyErrorOfStop : List ℕ → ℕ → ParseError → ReadError ValueFault → Type 0
-IsBodyErrorOfStop bytes behind (stops.Syntax rest) error =
-    error ≡ errors.Fault (bodies.NotValue (byte_offset bytes (chars rest.now) - behind))
-IsBodyErrorOfStop bytes behind (stops.Faulty kind rest) error =
-    error ≡ errors.Fault (bodies.NotValue (byte_offset bytes (chars rest.now) - behind))
-IsBodyErrorOfStop bytes behind stops.Memory error = error ≡ errors.NoMemory
+IsBodyErrorOfStop bytes tail (stops.Syntax rest) error =
+    error ≡ errors.Fault (bodies.NotValue (byte_offset bytes (chars rest.now) - tail))
+IsBodyErrorOfStop bytes tail (stops.Faulty kind rest) error =
+    error ≡ errors.Fault (bodies.NotValue (byte_offset bytes (chars rest.now) - tail))
+IsBodyErrorOfStop bytes tail stops.Memory error = error ≡ errors.NoMemory

@@ -1,10 +1,12 @@
 -- What a server did with one request. RFC 4825, section 8.
-use Rattle.std.specs.Prelude.{◌≡◌, Option, None, Result, Ok, Err}
+use Rattle.std.specs.Prelude.{◌≡◌, ℕ, Option, None, Result, Ok, Err}
 use Rattle.reply_text.specs.ReplyHeads.{SentReply, plain_reply}
 use Rattle.http_wire.specs.declared.request.Request.{Request}
 use Rattle.edit_ops.specs.declared.edit.Edit.{Edit}
 use Rattle.edit_journal.specs.declared.journal_log.AppendFault.{AppendFault}
 use Rattle.edit_journal.specs.declared.journal_log.AppendFault.TheVariants.{Failed, NoMemory}
+use Rattle.change_log.specs.declared.change_log.AppendFault as appends
+use Rattle.change_log.specs.declared.change_log.AppendFault.TheVariants as append_faults
 use Rattle.store_core.specs.StoreViews.{StoreView}
 use Rattle.xcap_machine.specs.Machine.{ContentStep, answer_with_edit, content_after_answer}
 use Rattle.xcap_put.specs.Decisions.{answer_of}
@@ -27,6 +29,12 @@ IsUnchanged old new = new ≡ old
 pub record DecidedRequest : Type 0 where
   pub request : Request
   pub decision : Decision
+
+-- what an append to a log of changes did, as the same of a journal
+abbrev pub entered_as : Result ℕ appends.AppendFault → Result (Unit {0}) AppendFault
+entered_as (Ok number) = Ok tt
+entered_as (Err append_faults.Failed) = Err Failed
+entered_as (Err append_faults.NoMemory) = Err NoMemory
 
 -- a decision is carried out where the request's record was added; where it couldn't be, the answer
 -- is the 500, and no change is made

@@ -80,7 +80,7 @@ fill_element-returns-in_err-check_tag_names-clause-reads_rule t c =
     let stop = c.in_err-check_tag_names.field-0.0 in
     let scope = lists c.args.bindings.now in
     let all = c.as_slice-all.result.now in
-    let behind = chars c.args.start_tag.now.behind.now in
+    let behind = chars c.args.start_tag.now.after.now in
     rw (p.1, p.2) (tag_err (c.args.inner + 1) c.args.inner c.args.depth scope (chars c.args.text.now) stop refl
     (misjudged scope (lists c.enter.new.self) c.in_ok-decls.decls.items (chars c.args.text.now) behind (tag_view (chars c.args.text.now) c.args.start_tag.now all) (tagged (chars c.args.text.now) behind c.args.start_tag.now all c.args.raw_attribute.now.items c.as_slice-all.ensures.value c.requires.1.1.1.1.0)
     c.in_ok-decls.ensures.ok c.in_ok-enter.ensures.scope_grows stop c.in_err-check_tag_names.ensures.judged_names))
@@ -93,7 +93,7 @@ fill_element-returns-in_err-rest-clause-reads_rule t c =
     let here = lists c.enter.new.self in
     let decls = c.in_ok-decls.decls.items in
     let all = c.as_slice-all.result.now in
-    let behind = chars c.args.start_tag.now.behind.now in
+    let behind = chars c.args.start_tag.now.after.now in
     let start_tag = tag_view (chars c.args.text.now) c.args.start_tag.now all in
     let read = tagged (chars c.args.text.now) behind c.args.start_tag.now all c.args.raw_attribute.now.items c.as_slice-all.ensures.value c.requires.1.1.1.1.0 in
     rw (p.1, p.2) (element_err (c.args.inner + 1) c.args.inner c.args.depth scope here decls (chars c.args.text.now) behind start_tag refl
@@ -108,7 +108,7 @@ fill_element-returns t c =
     let decls = c.in_ok-decls.decls.items in
     let all = c.as_slice-all.result.now in
     let same = c.as_slice-all.ensures.value in
-    let behind = chars c.args.start_tag.now.behind.now in
+    let behind = chars c.args.start_tag.now.after.now in
     let start_tag = tag_view (chars c.args.text.now) c.args.start_tag.now all in
     let inside = c.in_ok-enter.ensures.scope_grows in
     let read = tagged (chars c.args.text.now) behind c.args.start_tag.now all c.args.raw_attribute.now.items same c.requires.1.1.1.1.0 in

@@ -10,4 +10,4 @@ first_tag_fault-requires-clause-fits c =
     let text = c.args.text.now in
     let size : length text < 2 ^ 63 = first_of (search rules, omega (arith, c.well_formed)) in
     let name = c.args.start_tag.now.written in
-    omega (arith, tag_room (chars text) (chars c.args.start_tag.now.behind.now) (tag_view (chars text) c.args.start_tag.now c.args.raw_attribute.now) c.requires.tag_read, parts_size (chars name.prefix.now) (chars name.local.now), chars_le text c.utf8.text, size)
+    omega (arith, tag_room (chars text) (chars c.args.start_tag.now.after.now) (tag_view (chars text) c.args.start_tag.now c.args.raw_attribute.now) c.requires.tag_read, parts_size (chars name.prefix.now) (chars name.local.now), chars_le text c.utf8.text, size)

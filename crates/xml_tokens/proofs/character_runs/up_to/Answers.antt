@@ -17,7 +17,7 @@ returns-in-Some-strip_word c = record {
       let rest = chars c.each.rest.now in
       let front = chars c.text_before.result.now in
       let same = front_by_rest text front c.each.invariant.front rest c.text_before.ensures.parts_of_text c.each.invariant.whole in
-      let found = inside_found is_char c.args.end.now c.each.invariant.front rest (chars c.in-Some.after.now) c.in-Some.c c.in-Some.ensures.first_and_rest (chars c.in-Some-strip_word.behind.now) c.in-Some-strip_word.ensures.word_and_rest in
+      let found = inside_found is_char c.args.end.now c.each.invariant.front rest (chars c.in-Some.after.now) c.in-Some.c c.in-Some.ensures.first_and_rest (chars c.in-Some-strip_word.rest_after.now) c.in-Some-strip_word.ensures.word_and_rest in
       c.each.invariant.left ∙ found ∙ rw same refl;
 }
 

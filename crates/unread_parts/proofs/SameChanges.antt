@@ -1,5 +1,7 @@
--- Whether the connection ends after a request has no influence on the change that it makes.
-use Rattle.std.proofs.Common.{◌≡◌, ℕ, Bool, true, false, not, List, is_some, Option, None, Some, Result, Ok, Err, refl, sym, ap, subst, ◌∙◌}
+-- Neither whether the connection ends after a request, nor any field that the machine doesn't read,
+-- has influence on the change that it makes.
+use Rattle.std.proofs.Common.{◌≡◌, ℕ, Bool, true, false, not, List, is_some, codes, encode_utf8_all, Option, None, Some, Result, Ok, Err, refl, sym, ap, subst, ◌∙◌}
+use Rattle.std.specs.Prelude.{◌&&◌}
 use Rattle.std.specs.Bool.{MatchBool}
 use Rattle.xml_tree.specs.Tree.{Tree}
 use Rattle.tree_text.specs.declared.fault.TextFault.{TextFault}
@@ -17,13 +19,22 @@ use Rattle.edit_rules.specs.declared.spot.NoParent.{NoParent}
 use Rattle.edit_rules.specs.declared.spot.Spot.{Spot}
 use Rattle.edit_rules.specs.declared.spot.Spot.TheVariants.{Over, Under, Beside, Value}
 use Rattle.reply_text.specs.ReplyHeads.{SentReply, plain_reply}
+use Rattle.http_wire.specs.declared.request.Field.{Field}
 use Rattle.http_wire.specs.declared.request.Request.{Request}
+use Rattle.std.specs.List.{list_all}
+use Rattle.doc_names.specs.declared.doc_id.Auid.{Auid}
+use Rattle.doc_names.specs.declared.doc_id.Home.{Home}
+use Rattle.doc_names.specs.declared.doc_id.Home.TheVariants.{Global, User}
+use Rattle.http_wire.specs.Fields.{same_ignoring_case}
+use Rattle.reply_text.specs.ReplyHeads.{media_type}
+use Rattle.reply_text.specs.declared.media_types.MediaType.{MediaType}
 use Rattle.request_checks.specs.Conditions.{HasOutcome, outcome_reply}
+use Rattle.request_checks.specs.Fields.{IsConditionsReading}
 use Rattle.request_checks.specs.declared.conditions.Outcome.{Outcome}
 use Rattle.request_checks.specs.declared.conditions.Outcome.TheVariants.{Unreadable, Go, NotModified, Failed}
-use Rattle.request_checks.specs.MediaTypes.{document_media_type, has_media_type}
+use Rattle.request_checks.specs.MediaTypes.{document_media_type, has_media_type, is_single_type}
 use Rattle.request_checks.specs.Methods.{is_reading, method_of}
-use Rattle.request_checks.specs.Rights.{is_allowed}
+use Rattle.request_checks.specs.Rights.{fields_named, is_allowed, is_fixed_usage, is_only_value, is_from_user}
 use Rattle.request_checks.specs.declared.method.Method.{Method}
 use Rattle.request_checks.specs.declared.method.Method.TheVariants.{Get, Head, Put, Delete, Other}
 use Rattle.reply_bodies.specs.Nodes.{node_media_type}
@@ -43,10 +54,41 @@ use Rattle.xcap_machine.specs.inner.RecordValues.{representation, server_state, 
 use Rattle.xcap_machine.proofs.AcceptedRequests.{stopped_never}
 use Rattle.xcap_machine.proofs.ChangeAnswers.{as_the_store, told_by_store}
 
--- The change, the request, and the other request's `closes`.
-module _ (made : MadeChange) (request : Request) (closes : Bool) where
+-- the other fields have the same values under each name that the machine reads
+pub record ReadAlike (fields others : List Field) : Type 0 where
+  pub user : fields_named (codes "x-xcap-user") others ≡ fields_named (codes "x-xcap-user") fields
+  pub if_match : fields_named (codes "if-match") others ≡ fields_named (codes "if-match") fields
+  pub if_none_match : fields_named (codes "if-none-match") others ≡ fields_named (codes "if-none-match") fields
+  pub content_type : fields_named (codes "content-type") others ≡ fields_named (codes "content-type") fields
+  pub content_encoding : fields_named (codes "content-encoding") others ≡ fields_named (codes "content-encoding") fields
+
+pub same_fields : (fields : List Field) → ReadAlike fields fields
+same_fields fields = record { user = refl; if_match = refl; if_none_match = refl; content_type = refl; content_encoding = refl }
+
+module _ (fields others : List Field) (alike : ReadAlike fields others) where
+  allowed_alike : (writes : Bool) (auid : Auid) (home : Home) → is_allowed writes auid home others ≡ is_allowed writes auid home fields
+  unfolding is_from_user
+  allowed_alike writes auid Global = refl
+  allowed_alike writes auid (User xui) = ap (λ (values : List (List ℕ)). not (writes && is_fixed_usage auid) && is_only_value (encode_utf8_all xui) values) alike.user
+
+  type_alike : (media : MediaType) → has_media_type media others ≡ has_media_type media fields
+  unfolding has_media_type
+  type_alike media =
+      ap (λ (values : List (List ℕ)). list_all (λ v. same_ignoring_case v (codes "identity")) values && is_single_type (media_type media) (fields_named (codes "content-type") others)) alike.content_encoding
+      ∙ ap (λ (values : List (List ℕ)). list_all (λ v. same_ignoring_case v (codes "identity")) (fields_named (codes "content-encoding") fields) && is_single_type (media_type media) values) alike.content_type
+
+  outcome_alike : (tag : Option ℕ) (exists reading : Bool) (o : Outcome) → HasOutcome fields tag exists reading o → HasOutcome others tag exists reading o
+  outcome_alike tag exists reading o has = (
+    has.0,
+    subst (λ (values : List (List ℕ)). IsConditionsReading values (fields_named (codes "if-none-match") others) has.0) (sym alike.if_match)
+        (subst (λ (values : List (List ℕ)). IsConditionsReading (fields_named (codes "if-match") fields) values has.0) (sym alike.if_none_match) has.1),
+    has.2,
+  )
+
+-- The change, the request, and the other request's `closes` and fields.
+module _ (made : MadeChange) (request : Request) (closes : Bool) (fields : List Field) (alike : ReadAlike request.fields fields) where
   abbrev other : Request
-  other = record request { closes = closes }
+  other = record request { closes = closes; fields = fields }
 
   -- some answer of this kind makes the change
   abbrev Makes : (Answer → Type 0) → Type 0
@@ -56,14 +98,17 @@ module _ (made : MadeChange) (request : Request) (closes : Bool) where
     never : {X : Type 0} (reply : SentReply) → a ≡ reply_only reply → X
     never reply is = absurd (stopped_never a reply made makes is)
 
-    when : (test : Bool) (P : Type 0) (Q : Answer → Type 0) (reply reply' : SentReply) → (P → Makes Q) → MatchBool test P (a ≡ reply_only reply) → Makes (λ b. MatchBool test (Q b) (b ≡ reply_only reply'))
-    when true P Q reply reply' so is = so is
-    when false P Q reply reply' so is = never reply is
+    by_test : (test : Bool) (P : Type 0) (Q : Answer → Type 0) (reply reply' : SentReply) → (P → Makes Q) → MatchBool test P (a ≡ reply_only reply) → Makes (λ b. MatchBool test (Q b) (b ≡ reply_only reply'))
+    by_test true P Q reply reply' so is = so is
+    by_test false P Q reply reply' so is = never reply is
+
+    when : (test test' : Bool) → test' ≡ test → (P : Type 0) (Q : Answer → Type 0) (reply reply' : SentReply) → (P → Makes Q) → MatchBool test P (a ≡ reply_only reply) → Makes (λ b. MatchBool test' (Q b) (b ≡ reply_only reply'))
+    when test test' same P Q reply reply' so is = subst (λ (t : Bool). Makes (λ b. MatchBool t (Q b) (b ≡ reply_only reply'))) (sym same) (by_test test P Q reply reply' so is)
 
     module _ (tag : Option ℕ) (exists : Bool) (P : Type 0) (Q : Answer → Type 0) (so : P → Makes Q) where
       by_outcome : (o : Outcome) → HasOutcome request.fields tag exists false o → AnswersUnlessStopped (outcome_reply o tag request.closes) a P → Makes (λ b. AppliesConditions other (representation tag exists) false b (Q b))
       by_outcome Unreadable has is = never _ is
-      by_outcome Go has is = let m = so is in (m.0, (None, (Go, has, refl), m.1), m.2)
+      by_outcome Go has is = let m = so is in (m.0, (None, (Go, outcome_alike request.fields fields alike tag exists false Go has, refl), m.1), m.2)
       by_outcome NotModified has is = never _ is
       by_outcome Failed has is = never _ is
 
@@ -103,7 +148,7 @@ module _ (made : MadeChange) (request : Request) (closes : Bool) where
       document_put : (usage : Usage) → PutsDocument c id usage request a → Makes (λ b. PutsDocument c id usage other b)
       document_put usage =
           behind (version_tag (version_of c id)) (is_some (version_of c id)) (PutsBody usage (document_media_type id.auid) request (put_answer c id request.closes) a) (λ b. PutsBody usage (document_media_type id.auid) other (put_answer c id closes) b)
-          (when (has_media_type (document_media_type id.auid) request.fields) (PutsParsedBody usage request (put_answer c id request.closes) a) (λ b. PutsParsedBody usage other (put_answer c id closes) b)
+          (when (has_media_type (document_media_type id.auid) request.fields) (has_media_type (document_media_type id.auid) fields) (type_alike request.fields fields alike (document_media_type id.auid)) (PutsParsedBody usage request (put_answer c id request.closes) a) (λ b. PutsParsedBody usage other (put_answer c id closes) b)
           (plain_reply 415 request.closes) (plain_reply 415 closes) (spelled usage))
 
       module _ (usage : Usage) (selector : Selector) (t : Tree) where
@@ -129,7 +174,7 @@ module _ (made : MadeChange) (request : Request) (closes : Bool) where
 
         fragment : (spot : Spot) → PutsFragment c (node_write id usage selector request) t spot a → Makes (λ b. PutsFragment c (node_write id usage selector other) t spot b)
         fragment spot =
-            when (has_media_type (node_media_type selector.end) request.fields) (PutsAtEditTarget c (node_write id usage selector request) t spot a) (λ b. PutsAtEditTarget c (node_write id usage selector other) t spot b)
+            when (has_media_type (node_media_type selector.end) request.fields) (has_media_type (node_media_type selector.end) fields) (type_alike request.fields fields alike (node_media_type selector.end)) (PutsAtEditTarget c (node_write id usage selector request) t spot a) (λ b. PutsAtEditTarget c (node_write id usage selector other) t spot b)
             (plain_reply 415 request.closes) (plain_reply 415 closes) (at_spot spot)
 
         from_spot : (root : List ℕ) (tag : ℕ) (spot : Result Spot NoParent) → PutsByEditTarget (server_state root c) (node_write id usage selector request) (t, tag) spot a → Makes (λ b. PutsByEditTarget (server_state root c) (node_write id usage selector other) (t, tag) spot b)
@@ -155,7 +200,7 @@ module _ (made : MadeChange) (request : Request) (closes : Bool) where
       node_deleted : (usage : Usage) (selector : Selector) (version : Option (Tree × ℕ)) → DeletesNodeIfStored c (node_write id usage selector request) version a → Makes (λ b. DeletesNodeIfStored c (node_write id usage selector other) version b)
       node_deleted usage selector None is = never _ is
       node_deleted usage selector (Some (t, tag)) is =
-          when (node_exists t selector) (AppliesConditions request (representation (Some tag) true) false a (RemovesNode c (node_write id usage selector request) t a)) (λ b. AppliesConditions other (representation (Some tag) true) false b (RemovesNode c (node_write id usage selector other) t b))
+          when (node_exists t selector) (node_exists t selector) refl (AppliesConditions request (representation (Some tag) true) false a (RemovesNode c (node_write id usage selector request) t a)) (λ b. AppliesConditions other (representation (Some tag) true) false b (RemovesNode c (node_write id usage selector other) t b))
           (plain_reply 404 request.closes) (plain_reply 404 closes)
           (behind (Some tag) true (RemovesNode c (node_write id usage selector request) t a) (λ b. RemovesNode c (node_write id usage selector other) t b) (cut usage selector t)) is
 
@@ -191,12 +236,13 @@ module _ (made : MadeChange) (request : Request) (closes : Bool) where
 
       by_user : (target : Target) (method : Method) → is_reading method ≡ false → AnswersByUser (server_state root c) target method request a → Makes (λ b. AnswersByUser (server_state root c) target method other b)
       by_user target method writes =
-          when (is_allowed (not (is_reading method)) (auid_of target) (home_of target) request.fields) (AnswersByMethod (server_state root c) target method request a) (λ b. AnswersByMethod (server_state root c) target method other b)
+          when (is_allowed (not (is_reading method)) (auid_of target) (home_of target) request.fields) (is_allowed (not (is_reading method)) (auid_of target) (home_of target) fields)
+          (allowed_alike request.fields fields alike (not (is_reading method)) (auid_of target) (home_of target)) (AnswersByMethod (server_state root c) target method request a) (λ b. AnswersByMethod (server_state root c) target method other b)
           (plain_reply 403 request.closes) (plain_reply 403 closes) (by_method target method writes)
 
       by_target : (target : Target) (method : Method) → is_reading method ≡ false → AnswersByTarget (server_state root c) target method request a → Makes (λ b. AnswersByTarget (server_state root c) target method other b)
       by_target target method writes =
-          when (allows_method target method) (AnswersByUser (server_state root c) target method request a) (λ b. AnswersByUser (server_state root c) target method other b) _ _ (by_user target method writes)
+          when (allows_method target method) (allows_method target method) refl (AnswersByUser (server_state root c) target method request a) (λ b. AnswersByUser (server_state root c) target method other b) _ _ (by_user target method writes)
 
       answered_so : (read : Result Target UriFault) → is_reading (method_of request.method) ≡ false → IsAnswerByTarget root c read request a → Makes (λ b. IsAnswerByTarget root c read other b)
       answered_so (Err fault) writes is = never _ is

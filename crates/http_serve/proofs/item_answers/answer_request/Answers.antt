@@ -1,5 +1,5 @@
 use Rattle.std.proofs.Common.{inl, inr, refl}
-use Rattle.http_serve.proofs.connection.answer_request.Goals as goal
+use Rattle.http_serve.proofs.item_answers.answer_request.Goals as goal
 
 pub returns-in-Ok-clause-machine_reply : goal.returns-in-Ok-clause-machine_reply
 returns-in-Ok-clause-machine_reply g c = inl (record { reply = c.in-Ok.answered.reply; written = refl; step = c.in-Ok.ensures.makes_step }, c.in-Ok.ensures.closes_as_asked)

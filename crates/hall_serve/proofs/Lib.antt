@@ -1,0 +1,17 @@
+pub mod ListPlaces
+pub mod PendingBytes
+pub mod ExchangeLists
+pub mod ExchangesInTurn
+pub mod OneConnection
+pub mod FirstItems
+pub mod SeatCalls
+pub mod SameSeats
+pub mod SeatOutcomes
+pub mod TurnOutcomes
+pub mod TurnCounts
+pub mod HallChanges
+pub mod AcceptedConnections
+pub mod RequestsLeft
+pub mod TurnResults
+pub mod TurnSums
+pub mod ServedInOrder

@@ -1,0 +1,6 @@
+pub mod Exchanges
+pub mod ServedConnections
+pub mod Seats
+pub mod ServedHalls
+pub mod ServedInTurn
+pub mod inner

@@ -1,0 +1,3 @@
+-- Definitions for private functions and proofs. No clause of a public call needs them.
+pub mod NewSeats
+pub mod SeatTurns

@@ -1,0 +1,2 @@
+pub mod RecordedRequests
+pub mod SameChanges
