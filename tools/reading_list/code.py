@@ -8,7 +8,7 @@ from reading_list.terms import FreeNames, parsed
 IMPORT = re.compile(r"^ *ghost use ([^;]+);", re.M)
 USE = re.compile(r"^ *(?:pub(?:\([^)]*\))? )?use (\w+)::([^;]+);", re.M)
 USED = re.compile(r"(?:(\w+) as )?(\w+)(?=\s*(?:[,}]|$))")
-CLAUSE = re.compile(r"\s*(?:requires|ensures|ghost)\*?\s*\w*\s*(?=\{)")
+CLAUSE = re.compile(r"\s*(requires|ensures|ghost)\*?\s*(\w*)\s*(?=\{)")
 EXPORTS = re.compile(r"^pub use \w+::([^;]+);", re.M)
 DECLARED = re.compile(r"^pub (?:fn|struct|enum|trait|type) (\w+)", re.M)
 FUNCTION = re.compile(r"(\bpub (?:unsafe )?)?\bfn \w+")
@@ -152,18 +152,19 @@ def parts_of_member(target):
 
 def parts_of_function(path):
     """What the clauses and the signature of a function name: CRATE::FUNCTION, or with the type or
-    trait between the two."""
+    trait between the two; with .LABEL behind it, of what it ensures that clause alone."""
+    path, _, label = path.partition(".")
     crate, *owner, function = path.split("::")
     parts = []
     for file in CodeFile.all_of(crate):
         for words in re.finditer(rf"\bfn {function}\b", file.text):
             heads = [re.split(r"[;}]", file.text[:it])[-1] for it in file.blocks(words.start())]
             if all(any(re.search(rf"\b{it}\b", head) for head in heads) for it in owner):
-                parts += parts_at(file, words.end(), heads[-1] if heads else "")
+                parts += parts_at(file, words.end(), heads[-1] if heads else "", label)
     return parts
 
 
-def parts_at(file, place, head):
+def parts_at(file, place, head, label=""):
     """The same of the function whose name ends at a place of a file, in an impl of this head."""
     text, bounds = file.text, {}
     if text[place] == "<":
@@ -173,10 +174,15 @@ def parts_at(file, place, head):
         place = end
     after = after_bracket(text, place)
     end = re.compile(r"[{;]|\b(?:requires|ensures|ghost)\b").search(text, after).start()
-    signature, parts = text[place:end], []
+    signature, parts, is_met = text[place:end], [], not label
     while opening := CLAUSE.match(text, end):
-        parts += file.free_names(opening.end(), within(text, opening.end()), bounds)
+        is_asked = not label or opening[1] != "ensures" or opening[2] == label
+        is_met |= opening[2] == label
+        if is_asked:
+            parts += file.free_names(opening.end(), within(text, opening.end()), bounds)
         end = after_bracket(text, opening.end())
+    if not is_met:
+        return []
     has_self = re.search(r"\b[sS]elf\b", signature)
     return parts + file.types(signature + (head if has_self else ""))
 

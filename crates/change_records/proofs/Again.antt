@@ -6,7 +6,7 @@ use Rattle.http_wire.specs.declared.request.Field.{Field}
 use Rattle.http_wire.specs.declared.request.Request.{Request}
 use Rattle.request_checks.specs.Methods.{method_of}
 use Rattle.change_records.specs.ReadFields.{kept_fields, read_field_of}
-use Rattle.change_records.specs.Records.{IsRecordable, change_record, field_bytes, method_number, recorded}
+use Rattle.change_records.specs.Records.{IsRecordable, change_record, field_bytes, kept_request, method_number}
 use Rattle.change_records.specs.declared.read_fields.ReadField.{ReadField}
 use Rattle.change_records.proofs.KeptFields.{field_with, kept_is, own_name}
 use Rattle.change_records.proofs.Lengths.{bytes_are, bytes_by}
@@ -44,15 +44,15 @@ module _ (request : Request) where
   abbrev with_fields : List ℕ → List ℕ
   with_fields fields = method_number (method_of request.method) ∷ (block request.target ++ (block request.body ++ fields))
 
-  pub record_again : change_record (recorded request) ≡ change_record request
+  pub record_again : change_record (kept_request request) ≡ change_record request
   record_again =
       ap (λ (l : List Field). with_fields (length l ∷ flat_map field_bytes (kept_fields request.fields))) (kept_again request.fields)
       ∙ ap (λ (l : List ℕ). with_fields (length (kept_fields request.fields) ∷ l)) (bytes_again request.fields)
 
-  pub recorded_again : recorded (recorded request) ≡ recorded request
-  recorded_again = ap (λ (l : List Field). record request { closes = false; fields = l }) (kept_again request.fields)
+  pub kept_request_again : kept_request (kept_request request) ≡ kept_request request
+  kept_request_again = ap (λ (l : List Field). record request { closes = false; fields = l }) (kept_again request.fields)
 
-  pub recordable_again : IsRecordable request → IsRecordable (recorded request)
+  pub recordable_again : IsRecordable request → IsRecordable (kept_request request)
   recordable_again is = record {
     method = is.method;
     few = omega (arith, is.few, ap (λ (l : List Field). length l) (kept_again request.fields));

@@ -11,8 +11,8 @@ use Rattle.http_wire.specs.declared.request.Request.{Request}
 use Rattle.request_checks.specs.Methods.{method_of}
 use Rattle.request_checks.specs.declared.method.Method.TheVariants.{Put, Delete}
 use Rattle.change_records.specs.ReadFields.{kept_field, kept_fields, name_of}
-use Rattle.change_records.specs.Readings.{RecordParts, counted_fields, field_at, fields_of, method_at, parts_after, parts_of, read_field_at, request_of, request_with, valued}
-use Rattle.change_records.specs.Records.{IsRecordable, change_record, field_bytes, field_number, is_writing, method_number, recorded}
+use Rattle.change_records.specs.Readings.{RecordParts, counted_fields, field_at, fields_of, known_field_at, method_at, parts_after, parts_of, read_field_at, request_of, request_with}
+use Rattle.change_records.specs.Records.{IsRecordable, change_record, field_bytes, field_number, is_writing, kept_request, method_number}
 use Rattle.change_records.specs.declared.read_fields.ReadField.{ReadField}
 use Rattle.change_records.specs.declared.read_fields.ReadField.TheVariants.{User, IfMatch, IfNoneMatch, ContentType, ContentEncoding}
 use Rattle.change_records.proofs.KeptFields.{field_with, kept_is, own_name}
@@ -49,8 +49,8 @@ record FieldForm (bytes : List ℕ) (field : Field) (rest : List ℕ) : Type 0 w
   kept : kept_field field ≡ Some field
   left : AreBytes rest
 
-valued_form : (number : ℕ) (bytes : List ℕ) (known : ReadField) (x : Field × List ℕ) → AreBytes bytes → number ≡ field_number known → valued known bytes ≡ Some x → FieldForm (number ∷ bytes) x.0 x.1
-valued_form number bytes known x are numbered e =
+known_field_form : (number : ℕ) (bytes : List ℕ) (known : ReadField) (x : Field × List ℕ) → AreBytes bytes → number ≡ field_number known → known_field_at known bytes ≡ Some x → FieldForm (number ∷ bytes) x.0 x.1
+known_field_form number bytes known x are numbered e =
     let value = mapped_of (λ (value : List ℕ × List ℕ). (record { name = name_of known; value = value.0 }, value.1)) (block_at bytes) x e in
     let form = block_form bytes value.0.0 value.0.1 are value.1 in
     subst (λ (x : Field × List ℕ). FieldForm (number ∷ bytes) x.0 x.1) value.2 (form_of value.0.0 value.0.1 form.0 form.1)
@@ -67,8 +67,8 @@ valued_form number bytes known x are numbered e =
 field_form : (bytes : List ℕ) (x : Field × List ℕ) → AreBytes bytes → field_at bytes ≡ Some x → FieldForm bytes x.0 x.1
 field_form [] x are e = absurd cc
 field_form (number ∷ bytes) x are e =
-    let known = bound_of (λ (known : ReadField). valued known bytes) (read_field_at number) x e in
-    valued_form number bytes known.0 x are.1 (number_form number known.0 known.1) known.2
+    let known = bound_of (λ (known : ReadField). known_field_at known bytes) (read_field_at number) x e in
+    known_field_form number bytes known.0 x are.1 (number_form number known.0 known.1) known.2
 
 -- the fields that a record has
 record FieldsForm (bytes : List ℕ) (count : ℕ) (fields : List Field) : Type 0 where
@@ -151,7 +151,7 @@ parts_form (number ∷ bytes) parts are e =
 
 pub record RecordForm (bytes : List ℕ) (request : Request) : Type 0 where
   pub is : bytes ≡ change_record request
-  pub same : recorded request ≡ request
+  pub same : kept_request request ≡ request
   pub writing : is_writing (method_of request.method) ≡ true
   pub few : length (kept_fields request.fields) < 256
 

@@ -8,7 +8,7 @@ use Rattle.http_wire.specs.declared.request.Request.{Request}
 use Rattle.change_records.specs.ReadFields.{kept_fields, read_field_of}
 use Rattle.change_records.specs.Records.{IsRecordable, change_record, field_bytes, field_number}
 use Rattle.change_records.specs.declared.read_fields.ReadField.{ReadField}
-use Rattle.change_records.specs.inner.WritableFields.{IsWritable}
+use Rattle.change_records.specs.inner.WritableFields.{FitsBlockIfKept}
 
 abbrev pub bytes_by : Field → Option ReadField → List ℕ
 bytes_by field o = elim o [ None ↦ [] | Some known ↦ field_number known ∷ block field.value ]
@@ -21,11 +21,11 @@ writable_by : (field : Field) (o : Option ReadField) → length (bytes_by field 
 writable_by field None short = tt
 writable_by field (Some known) short = omega (arith, block_length field.value, short)
 
-pub all_writable : (fields : List Field) → length (flat_map field_bytes fields) < 2 ^ 32 → All IsWritable fields
-all_writable [] short = All-nil IsWritable
+pub all_writable : (fields : List Field) → length (flat_map field_bytes fields) < 2 ^ 32 → All FitsBlockIfKept fields
+all_writable [] short = All-nil FitsBlockIfKept
 all_writable (field ∷ fields) short =
     let sum = length-append (field_bytes field) (flat_map field_bytes fields) in
-    All-cons IsWritable field fields (writable_by field (read_field_of field.name) (omega (arith, sum, short, ap (λ (l : List ℕ). length l) (bytes_are field))))
+    All-cons FitsBlockIfKept field fields (writable_by field (read_field_of field.name) (omega (arith, sum, short, ap (λ (l : List ℕ). length l) (bytes_are field))))
     (all_writable fields (omega (arith, sum, short)))
 
 module _ (request : Request) (recordable : IsRecordable request) where
@@ -48,5 +48,5 @@ module _ (request : Request) (recordable : IsRecordable request) where
   pub short_body : length request.body < 2 ^ 32
   short_body = omega (arith, sum, recordable.short)
 
-  pub writable_fields : All IsWritable request.fields
+  pub writable_fields : All FitsBlockIfKept request.fields
   writable_fields = all_writable request.fields (omega (arith, sum, recordable.short))

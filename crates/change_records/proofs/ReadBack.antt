@@ -13,11 +13,11 @@ use Rattle.request_checks.specs.Methods.{method_of}
 use Rattle.request_checks.specs.declared.method.Method.{Method}
 use Rattle.request_checks.specs.declared.method.Method.TheVariants.{Get, Head, Put, Delete, Other}
 use Rattle.change_records.specs.ReadFields.{kept_fields, name_of, read_field_of}
-use Rattle.change_records.specs.Readings.{RecordParts, counted_fields, field_at, fields_of, method_at, parts_after, parts_of, read_field_at, request_of, request_with, valued}
-use Rattle.change_records.specs.Records.{IsRecordable, change_record, field_bytes, field_number, is_writing, method_number, recorded}
+use Rattle.change_records.specs.Readings.{RecordParts, counted_fields, field_at, fields_of, known_field_at, method_at, parts_after, parts_of, read_field_at, request_of, request_with}
+use Rattle.change_records.specs.Records.{IsRecordable, change_record, field_bytes, field_number, is_writing, kept_request, method_number}
 use Rattle.change_records.specs.declared.read_fields.ReadField.{ReadField}
 use Rattle.change_records.specs.declared.read_fields.ReadField.TheVariants.{User, IfMatch, IfNoneMatch, ContentType, ContentEncoding}
-use Rattle.change_records.specs.inner.WritableFields.{IsWritable}
+use Rattle.change_records.specs.inner.WritableFields.{FitsBlockIfKept}
 use Rattle.change_records.proofs.KeptFields.{field_with, kept_is}
 use Rattle.change_records.proofs.Lengths.{bytes_are, bytes_by, short_body, short_target, writable_fields}
 
@@ -36,7 +36,7 @@ then_field count first = option_map (λ others. first.0 ∷ others) (fields_of c
 
 value_back : (field : Field) (known : ReadField) (rest : List ℕ) → length field.value < 2 ^ 32 → field_at (field_number known ∷ (block field.value ++ rest)) ≡ Some (field_with field known, rest)
 value_back field known rest short =
-    ap (λ (o : Option ReadField). option_and_then (λ k. valued k (block field.value ++ rest)) o) (own_number known)
+    ap (λ (o : Option ReadField). option_and_then (λ k. known_field_at k (block field.value ++ rest)) o) (own_number known)
     ∙ ap (λ (o : Option (List ℕ × List ℕ)). option_map (λ value. (record { name = name_of known; value = value.0 }, value.1)) o) (read_back field.value rest short)
 
 field_back : (field : Field) (others : List Field) (rest : List ℕ) (o : Option ReadField) → IfSome o (λ _. length field.value < 2 ^ 32) → fields_of (length others) rest ≡ Some others
@@ -46,12 +46,12 @@ field_back field others rest (Some known) short e =
     ap (λ (o : Option (Field × List ℕ)). option_and_then (then_field (length others)) o) (value_back field known rest short)
     ∙ ap (λ (o : Option (List Field)). option_map (λ fields. field_with field known ∷ fields) o) e
 
-pub fields_back : (fields : List Field) → All IsWritable fields → fields_of (length (kept_fields fields)) (flat_map field_bytes fields) ≡ Some (kept_fields fields)
+pub fields_back : (fields : List Field) → All FitsBlockIfKept fields → fields_of (length (kept_fields fields)) (flat_map field_bytes fields) ≡ Some (kept_fields fields)
 fields_back [] all = refl
 fields_back (field ∷ fields) all =
     subst (λ (kept : Option Field). fields_of (length (cons_option kept (kept_fields fields))) (field_bytes field ++ flat_map field_bytes fields) ≡ Some (cons_option kept (kept_fields fields))) (sym (kept_is field))
     (subst (λ (l : List ℕ). fields_of (length (cons_option (option_map (field_with field) (read_field_of field.name)) (kept_fields fields))) (l ++ flat_map field_bytes fields) ≡ Some (cons_option (option_map (field_with field) (read_field_of field.name)) (kept_fields fields))) (sym (bytes_are field))
-    (field_back field (kept_fields fields) (flat_map field_bytes fields) (read_field_of field.name) (All-head IsWritable field fields all) (fields_back fields (All-tail IsWritable field fields all))))
+    (field_back field (kept_fields fields) (flat_map field_bytes fields) (read_field_of field.name) (All-head FitsBlockIfKept field fields all) (fields_back fields (All-tail FitsBlockIfKept field fields all))))
 
 -- ---- methods
 
@@ -99,7 +99,7 @@ module _ (request : Request) (recordable : IsRecordable request) where
   parts_back : parts_of (change_record request) ≡ Some parts
   parts_back = ap (λ (o : Option (List ℕ)). option_and_then (λ method. parts_after method (block request.target ++ (block request.body ++ fields))) o) (method_back request.method recordable.method) ∙ after_back
 
-  pub request_back : request_of (change_record request) ≡ Some (recorded request)
+  pub request_back : request_of (change_record request) ≡ Some (kept_request request)
   request_back =
       ap (λ (o : Option RecordParts). option_and_then (λ p. option_map (request_with p) (counted_fields p.fields)) o) parts_back
       ∙ ap (λ (o : Option (List Field)). option_map (request_with parts) o) (fields_back request.fields (writable_fields request recordable))

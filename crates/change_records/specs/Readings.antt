@@ -31,15 +31,16 @@ read_field_at number =
     else None
 
 -- a field of this name, whose value is the block at the front, and the bytes after it
-abbrev pub valued : ReadField → List ℕ → Option (Field × List ℕ)
-valued known bytes =
+abbrev pub known_field_at : ReadField → List ℕ → Option (Field × List ℕ)
+known_field_at known bytes =
     option_map (λ value. (record { name = name_of known; value = value.0 }, value.1))
     (block_at bytes)
 
 -- the field at the front, and the bytes after it
 abbrev pub field_at : List ℕ → Option (Field × List ℕ)
 field_at [] = None
-field_at (number ∷ bytes) = option_and_then (λ known. valued known bytes) (read_field_at number)
+field_at (number ∷ bytes) =
+    option_and_then (λ known. known_field_at known bytes) (read_field_at number)
 
 -- this number of fields, if they are all that the bytes have
 abbrev pub fields_of : ℕ → List ℕ → Option (List Field)

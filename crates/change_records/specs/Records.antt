@@ -60,5 +60,5 @@ pub record IsRecordable (request : Request) : Type 0 where
   pub short : length (change_record request) ≤ MAX_CONTENT_BYTES
 
 -- the request as its record gives it: with the fields that are kept, and none else
-abbrev pub recorded : Request → Request
-recorded request = record request { closes = false; fields = kept_fields request.fields }
+abbrev pub kept_request : Request → Request
+kept_request request = record request { closes = false; fields = kept_fields request.fields }

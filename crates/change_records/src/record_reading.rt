@@ -5,7 +5,7 @@ ghost use Rattle.http_wire.specs.declared.request.Field.{Field as TheField};
 ghost use Rattle.change_records.specs.ReadFields.{name_of};
 ghost use Rattle.change_records.specs.Readings.{counted_fields, field_at, fields_of, method_at};
 ghost use Rattle.change_records.specs.Readings.{parts_after, parts_of, request_of};
-ghost use Rattle.change_records.specs.Readings.{request_with, valued};
+ghost use Rattle.change_records.specs.Readings.{known_field_at, request_with};
 ghost use Rattle.change_records.specs.inner.RecordViews.{parts_view};
 ghost use Rattle.change_records.specs.declared.record_reading.RecordFault.{RecordFault};
 
@@ -88,8 +88,8 @@ fn make_field(alloc: Global, known: ReadField, value: &[u8]) -> Result<Field, Al
 
 // The field whose value is the block at the front, and the bytes after it.
 fn read_value(alloc: Global, known: ReadField, bytes: &[u8]) -> Result<(Field, &[u8]), RecordFault>
-    ensures exact { IfOk result (λ x. valued known bytes.now ≡ Some (x.0, x.1.now)) }
-    ensures damaged { IsErrOf result RecordFault.Damaged → valued known bytes.now ≡ None }
+    ensures exact { IfOk result (λ x. known_field_at known bytes.now ≡ Some (x.0, x.1.now)) }
+    ensures damaged { IsErrOf result RecordFault.Damaged → known_field_at known bytes.now ≡ None }
 {
     match block_at(bytes) {
         None => Err(RecordFault::Damaged),

@@ -5,7 +5,7 @@ ghost use Rattle.std.specs.List.{filter};
 ghost use Rattle.change_records.specs.ReadFields.{kept_fields};
 ghost use Rattle.change_records.specs.Records.{IsRecordable, change_record, field_bytes};
 ghost use Rattle.change_records.specs.Records.{method_number, parts_text};
-ghost use Rattle.change_records.specs.inner.WritableFields.{IsWritable, is_kept};
+ghost use Rattle.change_records.specs.inner.WritableFields.{FitsBlockIfKept, is_kept};
 
 use crate::read_fields::ReadField;
 use byte_blocks::append_block;
@@ -32,7 +32,7 @@ fn is_kept(field: &Field) -> bool
 // Appends a field, if it is kept.
 #[tactic(auto, unfolding(crate::specs::Records::field_bytes))]
 fn append_field(made: &mut Vec<u8>, field: &Field) -> Result<(), AllocError>
-    requires writable { IsWritable field.now }
+    requires writable { FitsBlockIfKept field.now }
     ensures appended { OnOk result (made.new.items ≡ made.old.items ++ field_bytes field.now) }
 {
     match ReadField::of(&field.name) {
@@ -45,7 +45,7 @@ fn append_field(made: &mut Vec<u8>, field: &Field) -> Result<(), AllocError>
 }
 
 fn append_fields(made: &mut Vec<u8>, fields: &[Field]) -> Result<(), AllocError>
-    requires writable { All IsWritable fields.now }
+    requires writable { All FitsBlockIfKept fields.now }
     ensures appended { OnOk result
         (made.new.items ≡ made.old.items ++ flat_map field_bytes fields.now) }
 {
@@ -72,9 +72,9 @@ fn count_byte(fields: &[Field]) -> u8
 }
 
 // Appends how many fields are kept, and these.
-fn append_counted(made: &mut Vec<u8>, fields: &[Field]) -> Result<(), AllocError>
+fn append_counted_fields(made: &mut Vec<u8>, fields: &[Field]) -> Result<(), AllocError>
     requires few { length (kept_fields fields.now) < 256 }
-    requires writable { All IsWritable fields.now }
+    requires writable { All FitsBlockIfKept fields.now }
     ensures appended { OnOk result (made.new.items ≡ made.old.items
         ++ length (kept_fields fields.now) ∷ flat_map field_bytes fields.now) }
 {
@@ -89,7 +89,7 @@ fn append_parts(made: &mut Vec<u8>, request: &Request) -> Result<(), AllocError>
 {
     append_block(made, request.target.as_slice())?;
     append_block(made, request.body.as_slice())?;
-    append_counted(made, request.fields.as_slice())
+    append_counted_fields(made, request.fields.as_slice())
 }
 
 /// The record of a request that has one.

@@ -23,7 +23,8 @@ use Rattle.xcap_machine.proofs.Cases.{either}
 use Rattle.xcap_machine.specs.Answers.{Answer, MadeChange, reply_only}
 use Rattle.xcap_machine.specs.Feeds.{changes_since_answer}
 use Rattle.xcap_machine.specs.Machine.{ValidStep, Step, state_after_answer, answer_with_edit, change_from_edit}
-use Rattle.xcap_machine.specs.Requests.{AnswersByMethod, AnswersByTarget, AnswersByUser, IsAnswer}
+use Rattle.xcap_machine.specs.Requests.{AnswersByTarget, IsAnswer}
+use Rattle.xcap_machine.specs.inner.AnswerCases.{AnswersByMethod, AnswersByUser}
 use Rattle.xcap_machine.specs.inner.AnswerCases.{IsAnswerByTarget}
 use Rattle.xcap_machine.specs.inner.RecordValues.{feed_query, read_request, server_state}
 use Rattle.client_theorem.specs.FeedRequests.{AsksForFeed}

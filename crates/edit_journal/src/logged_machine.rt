@@ -22,9 +22,9 @@ pub trait LoggedMachine {
     /// Relates a state, a request, the reply, the state after it, and the edit.
     ghost steps: { Self → TheRequest → SentReply → Self → Option Self.Edit → Type 0 };
 
-    /// The reply to a request, its body lent by the machine, which is unchanged: None where the
-    /// request is to be answered by `answer_logged`. The reply closes the connection exactly where
-    /// the request does.
+    /// The reply to a request, its body lent by the machine, which is unchanged: None where it
+    /// lends none. Asked for where `answer_logged` is out of memory. The reply closes the
+    /// connection exactly where the request does.
     ///
     /// # Errors
     /// `AllocError` when out of memory.

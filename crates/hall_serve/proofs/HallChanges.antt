@@ -1,10 +1,10 @@
 -- What is true between two turns is so after a wait in which no connection's time was up.
-use Rattle.std.proofs.Common.{◌≡◌, ◌≢◌, ℕ, ◌+◌, ◌<◌, ◌==◌, ◌⊎◌, inl, inr, Bool, true, false, List, ◌++◌, length, Option, None, Ok, refl, sym, ap, subst, ◌∙◌, arith}
+use Rattle.std.proofs.Common.{◌≡◌, ◌≢◌, ℕ, ◌<◌, ◌==◌, ◌⊎◌, inl, inr, Bool, true, false, List, ◌++◌, length, Option, None, Ok, refl, sym, ap, subst, ◌∙◌, arith}
 use Rattle.std.specs.Prelude.{slice_index_or}
 use Rattle.std.proofs.lemmas.List.{get_or-set_same, get_or-set_other, length-set}
 use Rattle.std.proofs.lemmas.Bool.Decides.{eqb_tells}
 use Rattle.halls.specs.HallState.{ConnectionState, HallState, connection_at, new_connection, with_connection}
-use Rattle.halls.specs.StateChanges.{hall_after_wait, with_report}
+use Rattle.halls.specs.StateChanges.{hall_after_wait, with_report, with_wait}
 use Rattle.halls.specs.CallResults.{IsOpen}
 use Rattle.halls.specs.declared.hall.ConnectionId.{ConnectionId}
 use Rattle.halls.specs.declared.hall.Event.TheVariants.{Ready}
@@ -45,9 +45,9 @@ one_still hall n change inside still = record { size = length-set hall.connectio
         (subst (IsStill (connection_at hall n)) (sym (get_or-set_same hall.connections n (change (connection_at hall n)) (new_connection 0 None) inside)) (still (connection_at hall n)))
     by_test m (inr (_, other)) = subst (IsStill (connection_at hall m)) (sym (get_or-set_other hall.connections n m (change (connection_at hall n)) (new_connection 0 None) other)) (still_same (connection_at hall m))
 
-pub ready_still : (hall : HallState) (id : ConnectionId) → IsOpen hall id → AreStill hall (hall_after_wait {E = ℕ} (Ok (Ready id)) hall)
-ready_still hall id is =
-    let s = one_still (record hall { waits = hall.waits + 1 }) id.number with_report is.begun (λ c. record { place = refl; given = refl; ended = refl; taken = refl; closed = refl; broken = refl; reads = refl; writes = refl }) in
+pub ready_still : (hall : HallState) (more : Bool) (id : ConnectionId) → IsOpen hall id → AreStill hall (hall_after_wait {E = ℕ} more (Ok (Ready id)) hall)
+ready_still hall more id is =
+    let s = one_still (with_wait more hall) id.number with_report is.begun (λ c. record { place = refl; given = refl; ended = refl; taken = refl; closed = refl; broken = refl; reads = refl; writes = refl }) in
     record { size = s.size; each = s.each }
 
 pub same_still : (hall hall' : HallState) → hall'.connections ≡ hall.connections → AreStill hall hall'

@@ -1,6 +1,8 @@
 -- Lists with one place changed, or one element more.
 use Rattle.std.proofs.Common.{◌≡◌, ℕ, zero, suc, ◌+◌, ◌<◌, ◌≤◌, ◌⊎◌, inl, inr, List, [], ◌∷◌, ◌++◌, length, Option, None, Some, refl, sym, ap, ◌∙◌, arith}
-use Rattle.std.specs.Prelude.{leb, slice_set, slice_index_or, true, false}
+use Rattle.std.specs.Prelude.{leb, slice_set, slice_index_or, true, false, Bool, cond, is_some, ◌||◌}
+use Rattle.std.specs.List.{list_any, position, position_from}
+use Rattle.std.proofs.lemmas.Iterator.Adapters.{position_from-zero}
 use Rattle.std.proofs.lemmas.List.{get_or_past}
 use Rattle.std.proofs.lemmas.Bool.Decides.{leb_tells}
 
@@ -35,3 +37,15 @@ is_within {A} xs k a is = by_test (leb_tells (length xs) k)
     by_test : ((leb (length xs) k ≡ true) × (length xs ≤ k)) ⊎ ((leb (length xs) k ≡ false) × (k < length xs)) → k < length xs
     by_test (inl (_, past)) = absurd (none_some a (sym (get_or_past xs k None past) ∙ is))
     by_test (inr (_, inside)) = inside
+
+position_any : {A : Type 0} (test : A → Bool) (i : ℕ) (xs : List A) → is_some (position_from test i xs) ≡ list_any test xs
+position_any test i [] = refl
+position_any {A} test i (x ∷ xs) = by_test (test x) (position_any test (i + 1) xs)
+  where
+    by_test : (b : Bool) → is_some (position_from test (i + 1) xs) ≡ list_any test xs → is_some (cond b (Some i) (position_from test (i + 1) xs)) ≡ (b || list_any test xs)
+    by_test true e = refl
+    by_test false e = e
+
+-- there is a first element that passes a test exactly where one passes
+pub first_any : {A : Type 0} (test : A → Bool) (xs : List A) → is_some (position test xs) ≡ list_any test xs
+first_any test xs = ap (λ (o : Option ℕ). is_some o) (position_from-zero test xs) ∙ position_any test 0 xs

@@ -147,7 +147,7 @@ module _ {E : Type 0} where
   pub one_made : (number : ℕ) (exchange : Exchange E) → exchange.connection ≡ number → AreOn number (exchange ∷ [])
   one_made number exchange is = record { same = on-one number exchange is; other = λ n other. on-other n exchange (λ e. other (sym e ∙ is)) }
 
-  -- likewise with the exchanges of the connection
+  -- the same with the exchanges of the connection
   abbrev pub Outcome : SeatState → Option SeatState → ConnectionState → List (Exchange E) → Type 0
   Outcome old None line mine = IsServed line mine
   Outcome old (Some seat) line mine = (seat.id ≡ old.id) × (line.closed ≡ false) × HoldsRest seat line mine
@@ -213,7 +213,7 @@ module _ {E : Type 0} where
         let past : length hall.connections ≤ n = let e = size₂ in omega (arith, e, beyond) in
         mine_other n (λ same. let b = begun₀ hall seats matches k old at new line' in let no : ⊥ = omega (arith, same, past, b) in no) ∙ served.none_after n past
 
-    -- the seat at a place: that of the connection that changed, or one from before
+    -- the seat at a place: the one whose connection changed, or one from before
     seat_by : (j : ℕ) (seat : SeatState) → seat_at seats₂ j ≡ Some seat → ((j ≡ k) × (new ≡ Some seat)) ⊎ ((j ≢ k) × (seat_at seats j ≡ Some seat))
     seat_by j seat is = by_test (eqb_tells j k)
       where

@@ -126,7 +126,7 @@ module _ {E : Type 0} (old : SeatState) (line : ConnectionState) (mine : List (E
 
 -- ---- an item was answered
 
--- One connection changed, that of this seat, which was reported ready so often.
+-- Only the connection of this seat changed, which was reported ready `ready` times.
 pub record ChangesOne (ready : ℕ) (old : SeatState) (hall hall' : HallState) : Type 0 where
   pub connection : ConnectionState
   pub only_that : hall' ≡ set_connection hall old.id.number connection

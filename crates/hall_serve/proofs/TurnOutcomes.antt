@@ -1,5 +1,5 @@
 -- What a turn leaves of all connections and their seats.
-use Rattle.std.proofs.Common.{◌≡◌, ◌≢◌, ℕ, ◌+◌, ◌-◌, ◌<◌, ◌≤◌, ◌==◌, ◌⊎◌, inl, inr, true, false, List, [], length, Option, None, Some, Ok, refl, sym, ap, subst, ◌∙◌, arith}
+use Rattle.std.proofs.Common.{◌≡◌, ◌≢◌, ℕ, ◌+◌, ◌-◌, ◌<◌, ◌≤◌, ◌==◌, ◌⊎◌, inl, inr, Bool, true, false, List, [], length, Option, None, Some, Ok, refl, sym, ap, subst, ◌∙◌, arith}
 use Rattle.std.specs.Prelude.{slice_set, slice_index_or}
 use Rattle.std.proofs.lemmas.List.{append-nil, get_or-set_same, get_or-set_other}
 use Rattle.std.proofs.lemmas.Bool.Decides.{eqb_tells}
@@ -19,7 +19,7 @@ use Rattle.hall_serve.proofs.OneConnection.{other_line}
 use Rattle.hall_serve.proofs.SeatCalls.{closes_of}
 use Rattle.hall_serve.proofs.SeatOutcomes.{ChangesOne, turn_changes, turn_either, turn_matches, turn_serves}
 
--- the connection of this number was reported ready so often, and nothing else was done
+-- the connection of this number was reported ready `ready` times, and nothing else was done
 pub record IsReported (ready n : ℕ) (hall mid : HallState) : Type 0 where
   pub still : AreStill hall mid
   pub here : (connection_at mid n).reports ≡ (connection_at hall n).reports + ready
@@ -152,9 +152,9 @@ module _ {M E W : Type 0} (Step : M → Request → List ℕ → M → Option E 
 
 -- ---- the calls
 
-pub ready_reported : (hall : HallState) (id : ConnectionId) → IsOpen hall id → IsReported 1 id.number hall (hall_after_wait {E = ℕ} (Ok (Ready id)) hall)
-ready_reported hall id opened = record {
-  still = ready_still hall id opened;
+pub ready_reported : (hall : HallState) (more : Bool) (id : ConnectionId) → IsOpen hall id → IsReported 1 id.number hall (hall_after_wait {E = ℕ} more (Ok (Ready id)) hall)
+ready_reported hall more id opened = record {
+  still = ready_still hall more id opened;
   here = ap (λ (c : ConnectionState). c.reports) (get_or-set_same hall.connections id.number (with_report (connection_at hall id.number)) (new_connection 0 None) opened.begun);
   others = λ m other. ap (λ (c : ConnectionState). c.reports) (get_or-set_other hall.connections id.number m (with_report (connection_at hall id.number)) (new_connection 0 None) other);
 }

@@ -1,9 +1,10 @@
 -- What a turn leaves, by what it was: the clauses of `make_turn`.
-use Rattle.std.proofs.Common.{◌≡◌, ℕ, suc, ◌+◌, ◌*◌, ◌<◌, ◌≤◌, inr, List, [], ◌∷◌, ◌++◌, Option, None, Some, Ok, Err, length, true≢false, refl, sym, ap, subst, ◌∙◌, arith}
-use Rattle.std.specs.Prelude.{slice_set, option_map, is_some, IfSome, true, false}
+use Rattle.std.proofs.Common.{◌≡◌, ℕ, suc, Bool, if◌then◌else◌, ◌+◌, ◌*◌, ◌<◌, ◌≤◌, inr, List, [], ◌∷◌, ◌++◌, Option, None, Some, Ok, Err, length, true≢false, refl, sym, ap, subst, ◌∙◌, arith}
+use Rattle.std.specs.Prelude.{slice_set, option_map, is_none, is_some, IfSome, true, false, ◌&&◌}
+use Rattle.std.specs.List.{list_any, position}
 use Rattle.halls.specs.CallResults.{IsOpen, IsOver}
 use Rattle.halls.specs.HallState.{HallState, connection_at, new_connection}
-use Rattle.halls.specs.StateChanges.{first_text, hall_after_accept, hall_after_close, hall_after_wait, with_break, with_close}
+use Rattle.halls.specs.StateChanges.{first_text, hall_after_accept, hall_after_close, hall_after_wait, with_break, with_close, with_wait}
 use Rattle.halls.specs.declared.hall.ConnectionId.{ConnectionId}
 use Rattle.halls.specs.declared.hall.Event.TheVariants.{Knock, Ready, Late, Quiet, Over}
 use Rattle.http_wire.specs.declared.request.Request.{Request}
@@ -11,23 +12,26 @@ use Rattle.hall_serve.specs.declared.turns.Turn.{Turn}
 use Rattle.hall_serve.specs.declared.turns.Turn.TheVariants as turn
 use Rattle.hall_serve.specs.Exchanges.{Exchange}
 use Rattle.hall_serve.specs.Seats.{MatchesSeats, SeatState, requests_left, seat_at}
-use Rattle.hall_serve.specs.ServedHalls.{AreTriesInOrder, CountsTurn, HallServer, HasServed, ServesOn, WritesOrAnswers, begun_in, faults_in, memory_failures_in}
+use Rattle.hall_serve.specs.ServedHalls.{AreTriesInOrder, CountsTurn, HallServer, HasServed, ServesOn, WritesOrAnswers, begun_in, faults_in, memory_failures_in, places_offered}
 use Rattle.hall_serve.specs.inner.SeatTurns.{SeatsNextIn, ServesAt, ServesReady, ServesSeat, passes, set_connection}
 use Rattle.hall_serve.proofs.AcceptedConnections.{accepted_in_order, matches_accepted, serves_accepted}
 use Rattle.hall_serve.proofs.HallChanges.{matches_after, open_still, ready_still, same_still}
-use Rattle.hall_serve.proofs.ListPlaces.{some_inj}
+use Rattle.hall_serve.proofs.ListPlaces.{first_any, some_inj}
 use Rattle.hall_serve.proofs.RequestsLeft.{takes_accepted, takes_closed}
 use Rattle.hall_serve.proofs.SeatCalls.{close_set, closes_late, open_set}
 use Rattle.hall_serve.proofs.TurnCounts.{counts_began, counts_failure, counts_late, counts_none, counts_over, counts_quiet, counts_ready, counts_refused}
 use Rattle.hall_serve.proofs.TurnOutcomes.{IsReported, none_in_order, none_reported, one_in_order, one_matches, one_only, one_serves, one_told, ready_reported, seat_of, serves_nothing}
 
-module _ {M E W : Type 0} (Step : M → Request → List ℕ → M → Option E → Type 0) (Keeps : List E → W → W → Type 0) where
+module _ {M E W : Type 0} (Step : M → Request → List ℕ → M → Option E → Type 0) (Keeps : List E → W → W → Type 0) (more : Bool) where
+  abbrev offered : ℕ
+  offered = if more then 1 else 0
+
   pub record TurnDone (t : Turn) (old new : HallServer M W) : Type 0 where
     pub seats_match : MatchesSeats new.hall new.seats
     pub serves_on : (all : List (Exchange E)) → HasServed old.hall old.seats all → ServesOn Step Keeps all (memory_failures_in t) old new
-    pub told_first : WritesOrAnswers Keeps old new
+    pub notified_first : WritesOrAnswers Keeps old new
     pub in_order : AreTriesInOrder old.seats old.hall new.hall
-    pub counts : CountsTurn t old.hall new.hall
+    pub counts : CountsTurn t offered old.hall new.hall
 
   module _ (hall : HallState) (seats : List (Option SeatState)) (matches : MatchesSeats hall seats) (machine : M) (w : W) (none : Keeps [] w w) where
     abbrev before : HallServer M W
@@ -37,27 +41,27 @@ module _ {M E W : Type 0} (Step : M → Request → List ℕ → M → Option E 
     unserved hall' = record { machine = machine; hall = hall'; seats = seats; watchers = w }
 
     -- nothing was done on any connection
-    nothing_done : (t : Turn) → memory_failures_in t ≡ 0 → (hall' : HallState) → hall'.connections ≡ hall.connections → CountsTurn t hall hall' → TurnDone t before (unserved hall')
+    nothing_done : (t : Turn) → memory_failures_in t ≡ 0 → (hall' : HallState) → hall'.connections ≡ hall.connections → CountsTurn t offered hall hall' → TurnDone t before (unserved hall')
     nothing_done t whole hall' same counts = record {
       seats_match = matches_after hall hall' (same_still hall hall' same) seats matches;
       serves_on = λ all served. subst (λ (f : ℕ). ServesOn Step Keeps all f before (unserved hall')) (sym whole) (serves_nothing Step Keeps hall hall' seats machine w same none all served);
-      told_first = inr (refl, none);
+      notified_first = inr (refl, none);
       in_order = none_in_order hall hall' seats same;
       counts = counts;
     }
 
-    pub quiet_done : (hall' : HallState) → hall' ≡ hall_after_wait {E = ℕ} (Ok Quiet) hall → TurnDone turn.Went before (unserved hall')
-    quiet_done hall' is = nothing_done turn.Went refl hall' (ap (λ (h : HallState). h.connections) is) (counts_quiet hall hall' is)
+    pub quiet_done : (hall' : HallState) → hall' ≡ hall_after_wait {E = ℕ} more (Ok Quiet) hall → TurnDone turn.Went before (unserved hall')
+    quiet_done hall' is = nothing_done turn.Went refl hall' (ap (λ (h : HallState). h.connections) is) (counts_quiet hall more hall' is)
 
-    pub over_done : (hall' : HallState) → hall' ≡ hall_after_wait {E = ℕ} (Ok Over) hall → IsOver hall → TurnDone turn.Over before (unserved hall')
-    over_done hall' is none = nothing_done turn.Over refl hall' (ap (λ (h : HallState). h.connections) is) (counts_over hall hall' is none)
+    pub over_done : (hall' : HallState) → hall' ≡ hall_after_wait {E = ℕ} more (Ok Over) hall → IsOver hall → TurnDone turn.Over before (unserved hall')
+    over_done hall' is none = nothing_done turn.Over refl hall' (ap (λ (h : HallState). h.connections) is) (counts_over hall more hall' is none)
 
-    pub failure_done : (hall' : HallState) → hall' ≡ hall_after_wait {E = ℕ} (Err 0) hall → TurnDone turn.HallFailed before (unserved hall')
-    failure_done hall' is = nothing_done turn.HallFailed refl hall' (ap (λ (h : HallState). h.connections) is) (counts_failure hall hall' is)
+    pub failure_done : (hall' : HallState) → hall' ≡ hall_after_wait {E = ℕ} more (Err 0) hall → TurnDone turn.HallFailed before (unserved hall')
+    failure_done hall' is = nothing_done turn.HallFailed refl hall' (ap (λ (h : HallState). h.connections) is) (counts_failure hall more hall' is)
 
     -- one turn of a connection
     at_place : (id : ConnectionId) → IsOpen hall id → (failures : ℕ) (t : Turn) → memory_failures_in t ≡ failures → begun_in t ≡ 0 → faults_in t ≡ 0 → (t ≡ turn.Over → ⊥)
-        → (mid hall' : HallState) → mid ≡ hall_after_wait {E = ℕ} (Ok (Ready id)) hall → (seats' : List (Option SeatState)) (machine' : M) (w' : W)
+        → (mid hall' : HallState) → mid ≡ hall_after_wait {E = ℕ} more (Ok (Ready id)) hall → (seats' : List (Option SeatState)) (machine' : M) (w' : W)
         → ServesAt Step Keeps 1 failures id.place (record { machine = machine; hall = mid; seats = seats; watchers = w }) (record { machine = machine'; hall = hall'; seats = seats'; watchers = w' })
         → TurnDone t before (record { machine = machine'; hall = hall'; seats = seats'; watchers = w' })
     at_place id opened failures t whole none_begun no_fault goes mid hall' is seats' machine' w' s =
@@ -65,20 +69,20 @@ module _ {M E W : Type 0} (Step : M → Request → List ℕ → M → Option E 
         let there = seat_of hall seats id matches opened in
         let number : s.serves.seat.id.number ≡ id.number = ap (λ (o : SeatState). o.id.number) (some_inj s.serves.seat there.0 (sym at ∙ there.1)) ∙ there.2 in
         let reported : IsReported 1 s.serves.seat.id.number hall mid =
-        subst (λ (h : HallState). IsReported 1 s.serves.seat.id.number hall h) (sym is) (subst (λ (i : ℕ). IsReported 1 i hall (hall_after_wait {E = ℕ} (Ok (Ready id)) hall)) (sym number) (ready_reported hall id opened)) in
+        subst (λ (h : HallState). IsReported 1 s.serves.seat.id.number hall h) (sym is) (subst (λ (i : ℕ). IsReported 1 i hall (hall_after_wait {E = ℕ} more (Ok (Ready id)) hall)) (sym number) (ready_reported hall more id opened)) in
         let once : 1 ≤ 1 = omega arith in
         let done : TurnDone t before (record { machine = machine'; hall = hall'; seats = slice_set seats id.place s.left; watchers = w' }) = record {
           seats_match = one_matches Step Keeps 1 failures once hall mid hall' seats matches id.place s.serves.seat at reported s.left machine machine' w w' s.serves.serves;
           serves_on = λ all served. subst (λ (f : ℕ). ServesOn Step Keeps all f before (record { machine = machine'; hall = hall'; seats = slice_set seats id.place s.left; watchers = w' })) (sym whole)
               (one_serves Step Keeps 1 failures once hall mid hall' seats matches id.place s.serves.seat at reported s.left machine machine' w w' s.serves.serves all served);
-          told_first = one_told Step Keeps 1 failures once hall mid hall' seats matches id.place s.serves.seat at reported s.left machine machine' w w' s.serves.serves;
+          notified_first = one_told Step Keeps 1 failures once hall mid hall' seats matches id.place s.serves.seat at reported s.left machine machine' w w' s.serves.serves;
           in_order = one_in_order Step Keeps 1 failures once hall mid hall' seats matches id.place s.serves.seat at reported s.left machine machine' w w' s.serves.serves;
-          counts = counts_ready hall t none_begun no_fault goes id mid hall' s.serves.seat.id.number _ is
+          counts = counts_ready hall more t none_begun no_fault goes id mid hall' s.serves.seat.id.number _ is
               (one_only Step Keeps 1 failures once hall mid hall' seats matches id.place s.serves.seat at reported s.left machine machine' w w' s.serves.serves);
         } in
         subst (λ (l : List (Option SeatState)). TurnDone t before (record { machine = machine'; hall = hall'; seats = l; watchers = w' })) (sym s.only_there) done
 
-    pub ready_done : (id : ConnectionId) → IsOpen hall id → (t : Turn) (mid hall' : HallState) → mid ≡ hall_after_wait {E = ℕ} (Ok (Ready id)) hall → (seats' : List (Option SeatState)) (machine' : M) (w' : W)
+    pub ready_done : (id : ConnectionId) → IsOpen hall id → (t : Turn) (mid hall' : HallState) → mid ≡ hall_after_wait {E = ℕ} more (Ok (Ready id)) hall → (seats' : List (Option SeatState)) (machine' : M) (w' : W)
         → ServesReady Step Keeps t id.place (record { machine = machine; hall = mid; seats = seats; watchers = w }) (record { machine = machine'; hall = hall'; seats = seats'; watchers = w' })
         → TurnDone t before (record { machine = machine'; hall = hall'; seats = seats'; watchers = w' })
     ready_done id opened turn.Went mid hall' is seats' machine' w' s = at_place id opened 0 turn.Went refl refl refl (λ e. let no : ⊥ = cc in no) mid hall' is seats' machine' w' s
@@ -88,14 +92,14 @@ module _ {M E W : Type 0} (Step : M → Request → List ℕ → M → Option E 
     ready_done id opened turn.HallFailed mid hall' is seats' machine' w' s = absurd s
 
     -- its time was up
-    pub late_done : (id : ConnectionId) → IsOpen hall id → (mid hall' : HallState) → mid ≡ hall_after_wait {E = ℕ} (Ok (Late id)) hall → hall' ≡ hall_after_close id.number mid → (seats' : List (Option SeatState))
+    pub late_done : (id : ConnectionId) → IsOpen hall id → (mid hall' : HallState) → mid ≡ hall_after_wait {E = ℕ} more (Ok (Late id)) hall → hall' ≡ hall_after_close id.number mid → (seats' : List (Option SeatState))
         → seats' ≡ slice_set seats id.place None → TurnDone turn.Went before (record { machine = machine; hall = hall'; seats = seats'; watchers = w })
-    late_done id opened mid hall' is then seats' free =
+    late_done id opened mid hall' is moved seats' free =
         let there = seat_of hall seats id matches opened in
         let old : SeatState = there.0 in
-        let waited : HallState = record hall { waits = hall.waits + 1 } in
+        let waited : HallState = with_wait more hall in
         let changed : hall' ≡ set_connection waited id.number (with_close (with_break (connection_at hall id.number))) =
-        then ∙ ap (hall_after_close id.number) is ∙ close_set waited id.number (with_break (connection_at hall id.number)) opened.begun in
+        moved ∙ ap (hall_after_close id.number) is ∙ close_set waited id.number (with_break (connection_at hall id.number)) opened.begun in
         let changed' : hall' ≡ set_connection waited old.id.number (with_close (with_break (connection_at waited old.id.number))) =
         changed ∙ ap (λ (i : ℕ). set_connection waited i (with_close (with_break (connection_at hall i)))) (sym there.2) in
         let seated = (matches.seated id.place old there.1).is_open in
@@ -106,39 +110,52 @@ module _ {M E W : Type 0} (Step : M → Request → List ℕ → M → Option E 
         let done : TurnDone turn.Went before (record { machine = machine; hall = hall'; seats = slice_set seats id.place None; watchers = w }) = record {
           seats_match = one_matches Step Keeps 0 0 once hall waited hall' seats matches id.place old there.1 reported None machine machine w w s;
           serves_on = one_serves Step Keeps 0 0 once hall waited hall' seats matches id.place old there.1 reported None machine machine w w s;
-          told_first = one_told Step Keeps 0 0 once hall waited hall' seats matches id.place old there.1 reported None machine machine w w s;
+          notified_first = one_told Step Keeps 0 0 once hall waited hall' seats matches id.place old there.1 reported None machine machine w w s;
           in_order = one_in_order Step Keeps 0 0 once hall waited hall' seats matches id.place old there.1 reported None machine machine w w s;
-          counts = counts_late hall hall' id.number (with_close (with_break (connection_at hall id.number))) changed;
+          counts = counts_late hall more hall' id.number (with_close (with_break (connection_at hall id.number))) changed;
         } in
         subst (λ (l : List (Option SeatState)). TurnDone turn.Went before (record { machine = machine; hall = hall'; seats = l; watchers = w })) (sym free) done
 
     -- a connection could be accepted
-    pub knock_done : (free : Option ℕ) (k : ℕ) → free ≡ Some k → k < length seats → seat_at seats k ≡ None → (t : Turn) (mid hall' : HallState) → mid ≡ hall_after_wait {E = ℕ} (Ok Knock) hall → (seats' : List (Option SeatState))
+    pub knock_done : (free : Option ℕ) (k : ℕ) → free ≡ Some k → k < length seats → seat_at seats k ≡ None → (t : Turn) (mid hall' : HallState) → mid ≡ hall_after_wait {E = ℕ} more (Ok Knock) hall → (seats' : List (Option SeatState))
         → SeatsNextIn free seats seats' mid hall' t → TurnDone t before (record { machine = machine; hall = hall'; seats = seats'; watchers = w })
-    knock_done free k is within empty turn.Went mid hall' waited seats' (same, then) =
+    knock_done free k is within empty turn.Went mid hall' waited seats' (same, moved) =
         subst (λ (l : List (Option SeatState)). TurnDone turn.Went before (record { machine = machine; hall = hall'; seats = l; watchers = w })) (sym same)
-        (let e : hall' ≡ record hall { waits = hall.waits + 1; knocks = hall.knocks + 1; accepts = hall.accepts + 1 } = then ∙ ap (λ (h : HallState). record h { accepts = h.accepts + 1 }) waited in
-        nothing_done turn.Went refl hall' (ap (λ (h : HallState). h.connections) e) (counts_none hall hall' e))
-    knock_done free k is within empty turn.HallFailed mid hall' waited seats' (same, then) =
+        (let e : hall' ≡ record (with_wait more hall) { knocks = hall.knocks + 1; accepts = hall.accepts + 1 } = moved ∙ ap (λ (h : HallState). record h { accepts = h.accepts + 1 }) waited in
+        nothing_done turn.Went refl hall' (ap (λ (h : HallState). h.connections) e) (counts_none hall more hall' e))
+    knock_done free k is within empty turn.HallFailed mid hall' waited seats' (same, moved) =
         subst (λ (l : List (Option SeatState)). TurnDone turn.HallFailed before (record { machine = machine; hall = hall'; seats = l; watchers = w })) (sym same)
-        (let e : hall' ≡ record hall { waits = hall.waits + 1; knocks = hall.knocks + 1; accepts = hall.accepts + 1; faults = hall.faults + 1 } = then ∙ ap (λ (h : HallState). record h { accepts = h.accepts + 1; faults = h.faults + 1 }) waited in
-        nothing_done turn.HallFailed refl hall' (ap (λ (h : HallState). h.connections) e) (counts_refused hall hall' e))
-    knock_done free k is within empty turn.Began mid hall' waited seats' (place, at, (id, same_place, number, seated, then)) =
+        (let e : hall' ≡ record (with_wait more hall) { knocks = hall.knocks + 1; accepts = hall.accepts + 1; faults = hall.faults + 1 } = moved ∙ ap (λ (h : HallState). record h { accepts = h.accepts + 1; faults = h.faults + 1 }) waited in
+        nothing_done turn.HallFailed refl hall' (ap (λ (h : HallState). h.connections) e) (counts_refused hall more hall' e))
+    knock_done free k is within empty turn.Began mid hall' waited seats' (place, at, (id, same_place, number, seated, moved)) =
         let same : place ≡ k = some_inj place k (sym at ∙ is) in
-        let began : hall' ≡ hall_after_accept {E = Unit {0}} place (Ok (Some id)) (hall_after_wait {E = ℕ} (Ok Knock) hall) = then ∙ ap (hall_after_accept {E = Unit {0}} place (Ok (Some id))) waited in
-        let more : hall'.connections ≡ hall.connections ++ new_connection place (option_map first_text hall.to_come) ∷ [] = ap (λ (h : HallState). h.connections) began in
+        let began : hall' ≡ hall_after_accept {E = Unit {0}} place (Ok (Some id)) (hall_after_wait {E = ℕ} more (Ok Knock) hall) = moved ∙ ap (hall_after_accept {E = Unit {0}} place (Ok (Some id))) waited in
+        let longer : hall'.connections ≡ hall.connections ++ new_connection place (option_map first_text hall.to_come) ∷ [] = ap (λ (h : HallState). h.connections) began in
         let next : id.number ≡ length hall.connections = number ∙ ap (λ (h : HallState). length h.connections) waited in
         let within' : place < length seats = omega (arith, within, same) in
         let empty' : seat_at seats place ≡ None = ap (seat_at seats) same ∙ empty in
         subst (λ (l : List (Option SeatState)). TurnDone turn.Began before (record { machine = machine; hall = hall'; seats = l; watchers = w })) (sym seated) (record {
-          seats_match = matches_accepted hall hall' seats place (option_map first_text hall.to_come) id more same_place next matches within' empty';
-          serves_on = serves_accepted hall hall' seats place (option_map first_text hall.to_come) id more same_place next matches within' empty' Step Keeps machine w none;
-          told_first = inr (refl, none);
-          in_order = accepted_in_order hall hall' seats place (option_map first_text hall.to_come) id more same_place next matches within' empty';
-          counts = counts_began hall hall' place id began;
+          seats_match = matches_accepted hall hall' seats place (option_map first_text hall.to_come) id longer same_place next matches within' empty';
+          serves_on = serves_accepted hall hall' seats place (option_map first_text hall.to_come) id longer same_place next matches within' empty' Step Keeps machine w none;
+          notified_first = inr (refl, none);
+          in_order = accepted_in_order hall hall' seats place (option_map first_text hall.to_come) id longer same_place next matches within' empty';
+          counts = counts_began hall more hall' place id began;
         })
     knock_done free k is within empty turn.NoMemory mid hall' waited seats' s = absurd s
     knock_done free k is within empty turn.Over mid hall' waited seats' s = absurd s
+
+-- there is a place for the next connection exactly where more are taken and a seat is free
+pub place_offered : (takes_more : Bool) (free : Option ℕ) (seats : List (Option SeatState)) → free ≡ (if takes_more then position is_none seats else None) → is_some free ≡ (takes_more && list_any is_none seats)
+place_offered takes_more free seats first = ap (λ (o : Option ℕ). is_some o) first ∙ by_case takes_more
+  where
+    by_case : (b : Bool) → is_some (if b then position is_none seats else None) ≡ (b && list_any is_none seats)
+    by_case true = first_any is_none seats
+    by_case false = refl
+
+-- a place was offered where more were taken and a seat was free
+pub counts_offered : (t : Turn) (more takes_more : Bool) (seats : List (Option SeatState)) (old new : HallState) → more ≡ (takes_more && list_any is_none seats) → CountsTurn t (if more then 1 else 0) old new
+    → CountsTurn t (places_offered takes_more seats) old new
+counts_offered t more takes_more seats old new is counts = subst (λ (b : Bool). CountsTurn t (if b then 1 else 0) old new) is counts
 
 -- a turn of an open connection begins none
 pub ready_begins_none : {M E W : Type 0} (Step : M → Request → List ℕ → M → Option E → Type 0) (Keeps : List E → W → W → Type 0) (t : Turn) (k : ℕ) (old new : HallServer M W) → ServesReady Step Keeps t k old new → t ≡ turn.Began → ⊥
@@ -157,16 +174,16 @@ place_found seats (Some k) some p = record { place = k; is = refl; within = p.0;
 
 -- ---- the hall after a wait
 
-module _ (hall mid : HallState) (seats : List (Option SeatState)) (matches : MatchesSeats hall seats) (id : ConnectionId) (opened : IsOpen hall id) where
-  pub ready_open : mid ≡ hall_after_wait {E = ℕ} (Ok (Ready id)) hall → IsOpen mid id
-  ready_open is = subst (λ (h : HallState). IsOpen h id) (sym is) (open_still hall (hall_after_wait {E = ℕ} (Ok (Ready id)) hall) (ready_still hall id opened) id opened)
+module _ (hall mid : HallState) (more : Bool) (seats : List (Option SeatState)) (matches : MatchesSeats hall seats) (id : ConnectionId) (opened : IsOpen hall id) where
+  pub ready_open : mid ≡ hall_after_wait {E = ℕ} more (Ok (Ready id)) hall → IsOpen mid id
+  ready_open is = subst (λ (h : HallState). IsOpen h id) (sym is) (open_still hall (hall_after_wait {E = ℕ} more (Ok (Ready id)) hall) (ready_still hall more id opened) id opened)
 
-  pub ready_matches : mid ≡ hall_after_wait {E = ℕ} (Ok (Ready id)) hall → MatchesSeats mid seats
-  ready_matches is = subst (λ (h : HallState). MatchesSeats h seats) (sym is) (matches_after hall (hall_after_wait {E = ℕ} (Ok (Ready id)) hall) (ready_still hall id opened) seats matches)
+  pub ready_matches : mid ≡ hall_after_wait {E = ℕ} more (Ok (Ready id)) hall → MatchesSeats mid seats
+  ready_matches is = subst (λ (h : HallState). MatchesSeats h seats) (sym is) (matches_after hall (hall_after_wait {E = ℕ} more (Ok (Ready id)) hall) (ready_still hall more id opened) seats matches)
 
-  pub late_open : mid ≡ hall_after_wait {E = ℕ} (Ok (Late id)) hall → IsOpen mid id
+  pub late_open : mid ≡ hall_after_wait {E = ℕ} more (Ok (Late id)) hall → IsOpen mid id
   late_open is =
-      let waited : HallState = record hall { waits = hall.waits + 1 } in
+      let waited : HallState = with_wait more hall in
       let before : IsOpen waited id = record { begun = opened.begun; at_place = opened.at_place; not_closed = opened.not_closed } in
       subst (λ (h : HallState). IsOpen h id) (sym is) (open_set waited id (with_break (connection_at hall id.number)) before refl refl)
 
@@ -178,9 +195,9 @@ module _ {M : Type 0} (Takes : M → ℕ → Type 0) (fewer : (machine : M) (n :
 
   pub takes_knock : (seats : List (Option SeatState)) (free : Option ℕ) (k : ℕ) → free ≡ Some k → k < length seats → seat_at seats k ≡ None → (t : Turn) (mid hall' : HallState) (seats' : List (Option SeatState))
       → SeatsNextIn free seats seats' mid hall' t → (machine : M) (n : ℕ) → Takes machine (requests_left seats + (begun_in t * 1000 + n)) → Takes machine (requests_left seats' + n)
-  takes_knock seats free k is within empty turn.Went mid hall' seats' (same, then) machine n takes = subst (λ (l : List (Option SeatState)). Takes machine (requests_left l + n)) (sym same) (none_more (requests_left seats) machine n takes)
-  takes_knock seats free k is within empty turn.HallFailed mid hall' seats' (same, then) machine n takes = subst (λ (l : List (Option SeatState)). Takes machine (requests_left l + n)) (sym same) (none_more (requests_left seats) machine n takes)
-  takes_knock seats free k is within empty turn.Began mid hall' seats' (place, at, (id, same_place, number, seated, then)) machine n takes =
+  takes_knock seats free k is within empty turn.Went mid hall' seats' (same, moved) machine n takes = subst (λ (l : List (Option SeatState)). Takes machine (requests_left l + n)) (sym same) (none_more (requests_left seats) machine n takes)
+  takes_knock seats free k is within empty turn.HallFailed mid hall' seats' (same, moved) machine n takes = subst (λ (l : List (Option SeatState)). Takes machine (requests_left l + n)) (sym same) (none_more (requests_left seats) machine n takes)
+  takes_knock seats free k is within empty turn.Began mid hall' seats' (place, at, (id, same_place, number, seated, moved)) machine n takes =
       let same : place ≡ k = some_inj place k (sym at ∙ is) in
       subst (λ (l : List (Option SeatState)). Takes machine (requests_left l + n)) (sym seated)
       (takes_accepted Takes fewer seats place id (omega (arith, within, same)) (ap (seat_at seats) same ∙ empty) machine n takes)

@@ -1,12 +1,13 @@
 -- Turns after turns.
-use Rattle.std.proofs.Common.{◌≡◌, ℕ, ◌+◌, ◌-◌, ◌*◌, ◌<◌, ◌≤◌, Bool, true, false, List, [], ◌++◌, Option, None, length, refl, sym, ap, subst, ◌∙◌, append_assoc, arith}
+use Rattle.std.proofs.Common.{◌≡◌, ℕ, suc, ◌+◌, ◌-◌, ◌*◌, ◌<◌, ◌≤◌, Bool, true, false, List, [], ◌++◌, Option, None, length, refl, sym, ap, subst, ◌∙◌, append_assoc, arith}
 use Rattle.std.proofs.lemmas.List.{append-nil, length-append}
-use Rattle.halls.specs.HallState.{HallState, connection_at}
+use Rattle.std.specs.Prelude.{◌↔◌}
+use Rattle.halls.specs.HallState.{AreAllClosed, HallState, connection_at}
 use Rattle.http_wire.specs.declared.request.Request.{Request}
 use Rattle.hall_serve.specs.declared.turns.Turn.{Turn}
 use Rattle.hall_serve.specs.Exchanges.{Exchange, edits, exchanges_on}
 use Rattle.hall_serve.specs.Seats.{MatchesSeats, SeatState, seat_at}
-use Rattle.hall_serve.specs.ServedHalls.{AnswersKnocks, AreClosed, CountsTurn, HallServer, HasServed, ServesOn, begun_in, faults_in, memory_failures_in}
+use Rattle.hall_serve.specs.ServedHalls.{AnswersKnocks, AreTriesInOrder, CountsTurn, HallServer, HasServed, MakesTurns, ServesOn, WritesOrAnswers, begun_in, faults_in, memory_failures_in, places_offered}
 use Rattle.hall_serve.proofs.ExchangeLists.{edits-append, on-append, steps-append}
 use Rattle.hall_serve.proofs.ListPlaces.{none_some}
 
@@ -42,7 +43,7 @@ module _ {M E W : Type 0} (Step : M → Request → List ℕ → M → Option E 
         let s = before all served in
         subst (λ (h : ℕ). ServesOn Step Keeps all h old new) (sym sum) (turn_more all f (memory_failures_in t) old mid new s (one (all ++ s.more) s.served))
 
--- after turns: so many connections began, and there were so many waits
+-- after turns: how many connections began, and how many waits there were
 pub record CountsTurns (connections turns : ℕ) (old new : HallState) : Type 0 where
   pub waits : new.waits ≡ old.waits + turns
   pub faults : new.faults ≡ old.faults
@@ -53,8 +54,8 @@ pub record CountsTurns (connections turns : ℕ) (old new : HallState) : Type 0 
 pub no_count : (hall : HallState) → CountsTurns 0 0 hall hall
 no_count hall = record { waits = omega arith; faults = refl; begun = omega arith; knocks = omega arith; same_listening = refl }
 
-pub count_more : (connections turns connections' : ℕ) (t : Turn) → faults_in t ≡ 0 → connections' ≡ connections + begun_in t → (old mid new : HallState) → CountsTurns connections turns old mid → CountsTurn t mid new → CountsTurns connections' (turns + 1) old new
-count_more connections turns connections' t whole sum old mid new so_far one = record {
+pub count_more : (connections turns connections' : ℕ) (t : Turn) → faults_in t ≡ 0 → connections' ≡ connections + begun_in t → (offered : ℕ) (old mid new : HallState) → CountsTurns connections turns old mid → CountsTurn t offered mid new → CountsTurns connections' (turns + 1) old new
+count_more connections turns connections' t whole sum offered old mid new so_far one = record {
   waits = let a = so_far.waits in let b = one.waits in omega (arith, a, b);
   faults = let a = so_far.faults in let b = one.faults in omega (arith, a, b, whole);
   begun = let a = so_far.begun in let b = one.connections in omega (arith, a, b, sum);
@@ -62,8 +63,19 @@ count_more connections turns connections' t whole sum old mid new so_far one = r
   same_listening = one.same_listening ∙ so_far.same_listening;
 }
 
+module _ {M E W : Type 0} (Keeps : List E → W → W → Type 0) where
+  -- and another turn, in which more are taken where fewer than wanted began before it
+  pub turn_made : (begun count connections turns : ℕ) (old mid new : HallServer M W) (t : Turn) (more : Bool) → (more ≡ true → connections < count) → (connections < count → more ≡ true)
+      → MakesTurns Keeps (begun + count) turns old mid → length mid.hall.connections ≡ begun + connections → MatchesSeats new.hall new.seats → WritesOrAnswers Keeps mid new → AreTriesInOrder mid.seats mid.hall new.hall
+      → CountsTurn t (places_offered more mid.seats) mid.hall new.hall → MakesTurns Keeps (begun + count) (turns + 1) old new
+  turn_made begun count connections turns old mid new t more fewer_if below so_far sum matches notified in_order counts =
+      let next : suc turns ≡ turns + 1 = omega arith in
+      let fewer : (more ≡ true) ↔ (length mid.hall.connections < begun + count) = (λ is. (let l = fewer_if is in omega (arith, l, sum)), λ l. below (omega (arith, l, sum))) in
+      subst (λ (n : ℕ). MakesTurns Keeps (begun + count) n old new) next
+      (mid, so_far, (more, fewer, record { made = t; seats_match = matches; notified_first = notified; in_order = in_order; counts = counts }))
+
 -- where all seats are free, all connections are closed
-pub all_free_closed : (hall : HallState) (seats : List (Option SeatState)) → MatchesSeats hall seats → ((k : ℕ) → seat_at seats k ≡ None) → AreClosed hall
+pub all_free_closed : (hall : HallState) (seats : List (Option SeatState)) → MatchesSeats hall seats → ((k : ℕ) → seat_at seats k ≡ None) → AreAllClosed hall
 all_free_closed hall seats matches free = λ n below. by_closed n below (connection_at hall n).closed refl
   where
     by_closed : (n : ℕ) → n < length hall.connections → (b : Bool) → (connection_at hall n).closed ≡ b → b ≡ true

@@ -24,7 +24,7 @@ pub record SeatState : Type 0 where
 abbrev pub seat_at : List (Option SeatState) → ℕ → Option SeatState
 seat_at seats k = slice_index_or seats k None
 
--- The seat at this place is that of an open connection, and can be served.
+-- The connection of the seat at this place is open and can be served.
 pub record IsSeatAt (hall : HallState) (k : ℕ) (seat : SeatState) : Type 0 where
   pub at_place : seat.id.place ≡ k
   pub is_open : IsOpen hall seat.id
@@ -40,7 +40,7 @@ pub record HasSeat (hall : HallState) (seats : List (Option SeatState)) (n : ℕ
   pub is_there : seat_at seats (connection_at hall n).place ≡ Some seat
   pub same_number : seat.id.number ≡ n
 
--- Each seat is that of an open connection, and each open connection has one.
+-- Each seat belongs to an open connection, and each open connection has one.
 pub record MatchesSeats (hall : HallState) (seats : List (Option SeatState)) : Type 0 where
   pub seated : (k : ℕ) (seat : SeatState) → seat_at seats k ≡ Some seat → IsSeatAt hall k seat
   pub covered : (n : ℕ) → n < length hall.connections → (connection_at hall n).closed ≡ false

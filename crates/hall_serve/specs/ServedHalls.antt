@@ -1,9 +1,10 @@
 -- Many connections, served by one machine: what is true between two turns, and what turns do. RFC
 -- 9112, sections 9.3 and 9.6.
-use Rattle.std.specs.Prelude.{◌≡◌, ℕ, ◌+◌, ◌-◌, ◌<◌, ◌≤◌, ◌⊎◌, false, true, if◌then◌else◌, List}
-use Rattle.std.specs.Prelude.{[], ◌++◌, length, Option, Some}
+use Rattle.std.specs.Prelude.{◌≡◌, ℕ, zero, suc, ◌+◌, ◌-◌, ◌<◌, ◌≤◌, ◌⊎◌, ◌↔◌, ◌&&◌, Bool, false}
+use Rattle.std.specs.Prelude.{true, if◌then◌else◌, List, [], ◌++◌, length, Option, Some, is_none}
+use Rattle.std.specs.List.{list_any}
 use Rattle.halls.specs.CallResults.{IsOver}
-use Rattle.halls.specs.HallState.{HallState, ConnectionState, connection_at}
+use Rattle.halls.specs.HallState.{AreAllClosed, HallState, ConnectionState, connection_at}
 use Rattle.http_wire.specs.ConnectionItems.{HasNoCompleteItem}
 use Rattle.http_wire.specs.declared.request.Request.{Request}
 use Rattle.hall_serve.specs.declared.serve.HallStop.{HallStop}
@@ -12,7 +13,7 @@ use Rattle.hall_serve.specs.declared.turns.Turn.{Turn}
 use Rattle.hall_serve.specs.declared.turns.Turn.TheVariants as turn
 use Rattle.hall_serve.specs.Exchanges.{Exchange, AreExchanges, edits, exchanges_on, last_closes}
 use Rattle.hall_serve.specs.Exchanges.{replies}
-use Rattle.hall_serve.specs.Seats.{SeatState, seat_at}
+use Rattle.hall_serve.specs.Seats.{MatchesSeats, SeatState, seat_at}
 use Rattle.hall_serve.specs.ServedConnections.{BeginsWithItems, IsServed}
 use Rattle.hall_serve.specs.ServedInTurn.{AreInTurn}
 
@@ -61,8 +62,8 @@ abbrev pub GoesOn : ConnectionState → ConnectionState → ℕ → ℕ → Type
 GoesOn old new exchanges failures =
     new.reports + tries old ≤ old.reports + tries new + (exchanges + failures)
 
--- What was tried on an open connection in a turn in which it was reported ready so often, which is
--- once or never, by what its seat held before: where bytes of its last reply were pending, a write;
+-- What was tried on an open connection in a turn in which it was reported ready once or never, by
+-- what its seat held before: where bytes of its last reply were pending, one write for each report;
 -- and a read only where none were, and no item was complete in the bytes held.
 pub record TriesInOrder (seat : SeatState) (ready : ℕ) (old new : ConnectionState) : Type 0 where
   pub writes : 0 < length seat.pending → new.writes ≡ old.writes + ready
@@ -133,25 +134,45 @@ memory_failures_in turn.HallFailed = 0
 abbrev pub AnswersKnocks : HallState → HallState → Type 0
 AnswersKnocks old new = new.accepts + old.knocks ≡ old.accepts + new.knocks
 
--- The hall after one turn: it was waited for once.
-pub record CountsTurn (made : Turn) (old new : HallState) : Type 0 where
+-- how many places the wait of a turn offers: one, where more connections are taken and a seat is
+-- free
+abbrev pub places_offered : Bool → List (Option SeatState) → ℕ
+places_offered takes_more seats = if takes_more && list_any is_none seats then 1 else 0
+
+-- The hall after one turn: there was one wait, which offered a place or none.
+pub record CountsTurn (made : Turn) (offered : ℕ) (old new : HallState) : Type 0 where
   pub waits : new.waits ≡ old.waits + 1
+  pub open_waits : new.open_waits ≡ old.open_waits + offered
   pub faults : new.faults ≡ old.faults + faults_in made
   pub connections : length new.connections ≡ length old.connections + begun_in made
   pub knocks : AnswersKnocks old new
   pub same_listening : new.listening ≡ old.listening
   pub over : made ≡ turn.Over → IsOver new
 
--- all connections were closed
-abbrev pub AreClosed : HallState → Type 0
-AreClosed hall =
-    (n : ℕ) → n < length hall.connections → (connection_at hall n).closed ≡ true
+-- One turn, in which more connections are taken or not.
+pub record MakesTurn {M E W : Type 0} (Keeps : List E → W → W → Type 0) (takes_more : Bool)
+    (old new : HallServer M W) : Type 0 where
+  pub made : Turn
+  pub seats_match : MatchesSeats new.hall new.seats
+  pub notified_first : WritesOrAnswers Keeps old new
+  pub in_order : AreTriesInOrder old.seats old.hall new.hall
+  pub counts : CountsTurn made (places_offered takes_more old.seats) old.hall new.hall
+
+-- This number of turns, one after the other. In each of them more connections are taken exactly
+-- where fewer than `most` began before it.
+abbrev pub MakesTurns : {M E W : Type 0} → (List E → W → W → Type 0) → ℕ → ℕ → HallServer M W
+    → HallServer M W → Type 0
+MakesTurns Keeps most zero old new = new ≡ old
+MakesTurns {M} {E} {W} Keeps most (suc turns) old new =
+    (mid : HallServer M W) × MakesTurns Keeps most turns old mid
+    × ((takes_more : Bool) × ((takes_more ≡ true) ↔ (length mid.hall.connections < most))
+    × MakesTurn Keeps takes_more mid new)
 
 -- Why no further turn was made: as many connections as wanted began, and all were closed; none is
 -- to come, and all were closed; a wait or an accept failed; or as many turns as wanted were made.
 abbrev pub HasHallStop : HallStop → ℕ → ℕ → ℕ → HallState → HallState → Type 0
 HasHallStop Count most connections turns old new =
-    (connections ≡ most) × AreClosed new × (new.faults ≡ old.faults)
+    (connections ≡ most) × AreAllClosed new × (new.faults ≡ old.faults)
 HasHallStop Over most connections turns old new = IsOver new × (new.faults ≡ old.faults)
 HasHallStop HallFailed most connections turns old new = new.faults ≡ old.faults + 1
 HasHallStop Turns most connections turns old new =

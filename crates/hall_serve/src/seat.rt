@@ -119,7 +119,7 @@ impl Seat {
         from_head + copy_front(reply.body(), &mut buf[from_head..])
     }
 
-    // So many more bytes of the last reply are written.
+    // This many more bytes of the last reply are written.
     pub fn note_written(&mut self, count: usize)
         requires { count ≤ length self.old.pending }
         ensures fewer_pending { IsSeatAfter self.old self.old.feed.reader

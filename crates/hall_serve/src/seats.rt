@@ -1,6 +1,7 @@
 //! The seats of a hall's open connections.
 ghost use Rattle.std.specs.Prelude.{◌≡◌, ℕ, ◌+◌, ◌<◌, None, length, IfOk, IfSome};
-ghost use Rattle.std.specs.Prelude.{IsTrue, slice_set};
+ghost use Rattle.std.specs.Prelude.{IsTrue, is_none, slice_set};
+ghost use Rattle.std.specs.List.{position};
 ghost use Rattle.http_serve.specs.ReplyBytes.{StepsInBytes};
 ghost use Rattle.hall_serve.specs.Seats.{MatchesSeats, requests_left, seat_at};
 ghost use Rattle.hall_serve.specs.inner.SeatTurns.{SeatsNext, ServesAt, failures_unless};
@@ -66,10 +67,11 @@ impl Seats {
         })
     }
 
-    // The first place that is free.
+    // The first place that is free, if one is.
     pub(crate) fn free_place(&self) -> Option<usize>
         ensures is_free { IfSome result
             (λ k. (k < length self.now) × (seat_at self.now k ≡ None)) }
+        ensures first { result ≡ position is_none self.now }
     {
         self.places.iter().position(|place| place.is_none())
     }

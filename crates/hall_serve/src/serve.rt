@@ -3,7 +3,8 @@ ghost use Rattle.std.specs.Prelude.{◌≡◌, ℕ, ◌+◌, ◌-◌, ◌*◌, �
 ghost use Rattle.http_serve.specs.ReplyBytes.{StepsInBytes};
 ghost use Rattle.hall_serve.specs.Exchanges.{Exchange};
 ghost use Rattle.hall_serve.specs.Seats.{MatchesSeats, requests_left};
-ghost use Rattle.hall_serve.specs.ServedHalls.{AnswersKnocks, HasHallStop, HasServed, ServesOn};
+ghost use Rattle.hall_serve.specs.ServedHalls.{AnswersKnocks, HasHallStop, HasServed, MakesTurns};
+ghost use Rattle.hall_serve.specs.ServedHalls.{ServesOn};
 
 use crate::seats::Seats;
 use crate::turns::{Turn, make_turn};
@@ -48,6 +49,20 @@ pub fn serve_hall<M: Machine, H: Hall, W: Watchers<M::Edit>>(
     ensures seats_match { MatchesSeats (H.state hall.new) seats.new }
     ensures serves_on { (all : List (Exchange M.Edit)) → HasServed (H.state hall.old) seats.old all
         → ServesOn (StepsInBytes M.steps) W.keeps all result.memory_failures
+        (record {
+          machine = machine.old;
+          hall = H.state hall.old;
+          seats = seats.old;
+          watchers = watchers.old;
+        })
+        (record {
+          machine = machine.new;
+          hall = H.state hall.new;
+          seats = seats.new;
+          watchers = watchers.new;
+        }) }
+    ensures turns { (made : ℕ) × MakesTurns W.keeps
+        (length (H.state hall.old).connections + count) made
         (record {
           machine = machine.old;
           hall = H.state hall.old;

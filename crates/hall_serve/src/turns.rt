@@ -1,11 +1,13 @@
 //! One turn: a wait for what can go on, and one thing done for it.
-ghost use Rattle.std.specs.Prelude.{◌≡◌, ℕ, ◌+◌, ◌*◌, ◌<◌, true, None, Some, List, IfSome, IsSome};
-ghost use Rattle.std.specs.Prelude.{length};
+ghost use Rattle.std.specs.Prelude.{◌≡◌, ℕ, ◌+◌, ◌*◌, ◌<◌, true, None, Some, List, IfSome};
+ghost use Rattle.std.specs.Prelude.{IsSome, if◌then◌else◌, is_none, length};
+ghost use Rattle.std.specs.List.{position};
 ghost use Rattle.http_serve.specs.ReplyBytes.{StepsInBytes};
 ghost use Rattle.hall_serve.specs.Exchanges.{Exchange};
 ghost use Rattle.hall_serve.specs.Seats.{MatchesSeats, requests_left, seat_at};
 ghost use Rattle.hall_serve.specs.ServedHalls.{AreTriesInOrder, CountsTurn, HasServed, ServesOn};
 ghost use Rattle.hall_serve.specs.ServedHalls.{WritesOrAnswers, begun_in, memory_failures_in};
+ghost use Rattle.hall_serve.specs.ServedHalls.{places_offered};
 ghost use Rattle.hall_serve.specs.inner.SeatTurns.{SeatsNextIn, ServesReady};
 ghost use Rattle.halls.specs.CallResults.{IsOpen};
 
@@ -29,11 +31,12 @@ pub enum Turn {
     HallFailed,
 }
 
-// A place that is free, where more connections are taken.
+// A place that is free, if one is and more connections are taken.
 fn place_for_next(seats: &Seats, takes_more: bool) -> Option<usize>
     ensures is_free { IfSome result
         (λ k. (k < length seats.now) × (seat_at seats.now k ≡ None)) }
     ensures takes_more { IsSome result → takes_more ≡ true }
+    ensures first { result ≡ (if takes_more then position is_none seats.now else None) }
 {
     if takes_more {
         return seats.free_place();
@@ -119,7 +122,7 @@ pub fn make_turn<M: Machine, H: Hall, W: Watchers<M::Edit>>(
           seats = seats.new;
           watchers = watchers.new;
         }) }
-    ensures told_first { WritesOrAnswers W.keeps
+    ensures notified_first { WritesOrAnswers W.keeps
         (record {
           machine = machine.old;
           hall = H.state hall.old;
@@ -133,7 +136,8 @@ pub fn make_turn<M: Machine, H: Hall, W: Watchers<M::Edit>>(
           watchers = watchers.new;
         }) }
     ensures in_order { AreTriesInOrder seats.old (H.state hall.old) (H.state hall.new) }
-    ensures counts { CountsTurn result (H.state hall.old) (H.state hall.new) }
+    ensures counts { CountsTurn result (places_offered takes_more seats.old) (H.state hall.old)
+        (H.state hall.new) }
     ensures takes_more { result ≡ Turn.Began → takes_more ≡ true }
     ensures takes_on { (n : ℕ)
         → M.takes machine.old (requests_left seats.old + (begun_in result * 1000 + n))

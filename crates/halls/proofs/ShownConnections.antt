@@ -6,7 +6,7 @@ use Rattle.halls.specs.declared.hall.Progress.{Progress}
 use Rattle.halls.specs.declared.hall.Progress.TheVariants.{Moved, Blocked}
 use Rattle.halls.specs.declared.hall.Event.{Event}
 use Rattle.halls.specs.declared.hall.Event.TheVariants.{Knock, Ready, Late, Quiet, Over}
-use Rattle.halls.specs.StateChanges.{hall_after_close, hall_after_read, hall_after_wait, hall_after_write, with_next_connection, with_break, with_close, first_text, connection_after_read, connection_after_write, with_report}
+use Rattle.halls.specs.StateChanges.{hall_after_close, hall_after_read, hall_after_wait, hall_after_write, with_wait, with_next_connection, with_break, with_close, first_text, connection_after_read, connection_after_write, with_report}
 use Rattle.halls.specs.HallState.{ConnectionState, HallState, new_connection, connection_at, with_connection}
 use Rattle.halls.specs.CallResults.{IsOpen, MayRead}
 use Rattle.halls.specs.inner.Clients.{ReadsClient, WritesClient}
@@ -29,7 +29,7 @@ shown_set (x ∷ connections) [] n change f same = beyond x connections n f wher
 shown_set (x ∷ connections) (c ∷ clients) zero change f same = ap (λ (y : ConnectionState). y ∷ with_client_states connections clients) (same x c)
 shown_set (x ∷ connections) (c ∷ clients) (suc n) change f same = ap (λ (ys : List ConnectionState). with_client_state x c ∷ ys) (shown_set connections clients n change f same)
 
--- likewise where no client changes
+-- the same where no client changes
 shown_same : (connections : List ConnectionState) (clients : List ClientState) (n : ℕ) (f : ConnectionState → ConnectionState)
     → ((x : ConnectionState) (c : ClientState) → with_client_state (f x) c ≡ f (with_client_state x c))
     → with_client_states (slice_set connections n (f (slice_index_or connections n none))) clients
@@ -121,13 +121,13 @@ write_shown {E} clients logged n piece (Err e) = change_shown clients logged n (
 pub close_shown : (clients : List ClientState) (logged : HallState) (n : ℕ) → memory_hall_state (with_client clients n closed_client) (hall_after_close n logged) ≡ hall_after_close n (memory_hall_state clients logged)
 close_shown clients logged n = change_shown clients logged n closed_client with_close (λ x c. refl) (λ c. refl)
 
-pub wait_shown : {E : Type 0} (clients : List ClientState) (logged : HallState) (result : Result Event E) → memory_hall_state clients (hall_after_wait result logged) ≡ hall_after_wait result (memory_hall_state clients logged)
-wait_shown clients logged (Ok Knock) = refl
-wait_shown clients logged (Ok (Ready id)) = logged_shown clients (record logged { waits = logged.waits + 1 }) id.number with_report (λ x c. refl)
-wait_shown clients logged (Ok (Late id)) = logged_shown clients (record logged { waits = logged.waits + 1 }) id.number with_break (λ x c. refl)
-wait_shown clients logged (Ok Quiet) = refl
-wait_shown clients logged (Ok Over) = refl
-wait_shown clients logged (Err e) = refl
+pub wait_shown : {E : Type 0} (clients : List ClientState) (logged : HallState) (more : Bool) (result : Result Event E) → memory_hall_state clients (hall_after_wait more result logged) ≡ hall_after_wait more result (memory_hall_state clients logged)
+wait_shown clients logged more (Ok Knock) = refl
+wait_shown clients logged more (Ok (Ready id)) = logged_shown clients (with_wait more logged) id.number with_report (λ x c. refl)
+wait_shown clients logged more (Ok (Late id)) = logged_shown clients (with_wait more logged) id.number with_break (λ x c. refl)
+wait_shown clients logged more (Ok Quiet) = refl
+wait_shown clients logged more (Ok Over) = refl
+wait_shown clients logged more (Err e) = refl
 
 -- the next client connects
 pub begins_shown : (clients : List ClientState) (logged : HallState) (place : ℕ) → length logged.connections < length clients
@@ -225,7 +225,7 @@ next_is_named begun place clients logged counted below = (
 )
 
 -- a wait, as the hall makes it
-pub wait_of_hall : {E : Type 0} (clients clients' : List ClientState) (logged mid logged' : HallState) (result : Result Event E) → clients' ≡ clients → mid ≡ logged → logged' ≡ hall_after_wait result mid
-    → memory_hall_state clients' logged' ≡ hall_after_wait result (memory_hall_state clients logged)
-wait_of_hall clients clients' logged mid logged' result same also is =
-    ap (λ (cs : List ClientState). memory_hall_state cs logged') same ∙ ap (memory_hall_state clients) is ∙ ap (λ (hall : HallState). memory_hall_state clients (hall_after_wait result hall)) also ∙ wait_shown clients logged result
+pub wait_of_hall : {E : Type 0} (clients clients' : List ClientState) (logged mid logged' : HallState) (more : Bool) (result : Result Event E) → clients' ≡ clients → mid ≡ logged → logged' ≡ hall_after_wait more result mid
+    → memory_hall_state clients' logged' ≡ hall_after_wait more result (memory_hall_state clients logged)
+wait_of_hall clients clients' logged mid logged' more result same also is =
+    ap (λ (cs : List ClientState). memory_hall_state cs logged') same ∙ ap (memory_hall_state clients) is ∙ ap (λ (hall : HallState). memory_hall_state clients (hall_after_wait more result hall)) also ∙ wait_shown clients logged more result

@@ -6,7 +6,7 @@ use Rattle.halls.specs.declared.hall.Event.TheVariants.{Knock, Ready, Late, Quie
 use Rattle.halls.specs.declared.hall.ConnectionId.{ConnectionId}
 use Rattle.halls.specs.declared.hall.Progress.{Progress}
 use Rattle.halls.specs.declared.hall.Progress.TheVariants.{Moved, Blocked}
-use Rattle.halls.specs.HallState.{HallState, connection_at}
+use Rattle.halls.specs.HallState.{AreAllClosed, HallState, connection_at}
 
 -- The id names a connection that began, at its place, and that isn't closed.
 pub record IsOpen (hall : HallState) (id : ConnectionId) : Type 0 where
@@ -18,7 +18,7 @@ pub record IsOpen (hall : HallState) (id : ConnectionId) : Type 0 where
 -- what is to come is never over.
 pub record IsOver (hall : HallState) : Type 0 where
   pub none_to_come : hall.to_come ≡ Some []
-  pub all_closed : (n : ℕ) → n < length hall.connections → (connection_at hall n).closed ≡ true
+  pub all_closed : AreAllClosed hall
 
 -- A connection that a wait reports is open; a knock comes only where more are taken, and `Over`
 -- only where the hall is over.

@@ -1,8 +1,8 @@
 -- What contracts see of a hall: what has passed over each connection, and how often each call was
 -- made. This is the project's own model of many connections at once; at run time nothing of it
 -- exists but what a hall in memory holds.
-use Rattle.std.specs.Prelude.{ℕ, ◌+◌, List, [], Bool, false, Option, None, slice_index_or}
-use Rattle.std.specs.Prelude.{slice_set}
+use Rattle.std.specs.Prelude.{◌≡◌, ℕ, ◌+◌, ◌<◌, List, [], length, Bool, true, false, Option, None}
+use Rattle.std.specs.Prelude.{slice_index_or, slice_set}
 
 -- What has passed over one connection, and what was tried on it.
 pub record ConnectionState : Type 0 where
@@ -32,8 +32,10 @@ pub record HallState : Type 0 where
   pub to_come : Option (List (List ℕ))
   -- the address of the last `listen` that returned `Ok`
   pub listening : Option (List ℕ)
-  -- how often `wait` was called, and how often it reported that a connection can be accepted
+  -- how often `wait` was called, how often of these where more connections were taken, and how
+  -- often it reported that a connection can be accepted
   pub waits : ℕ
+  pub open_waits : ℕ
   pub knocks : ℕ
   -- how often `accept` was called
   pub accepts : ℕ
@@ -64,6 +66,7 @@ new_hall =
       to_come = None;
       listening = None;
       waits = 0;
+      open_waits = 0;
       knocks = 0;
       accepts = 0;
       faults = 0;
@@ -72,6 +75,11 @@ new_hall =
 -- the connection of this number; where there is none, one over which nothing has passed
 abbrev pub connection_at : HallState → ℕ → ConnectionState
 connection_at hall n = slice_index_or hall.connections n (new_connection 0 None)
+
+-- all connections were closed
+abbrev pub AreAllClosed : HallState → Type 0
+AreAllClosed hall =
+    (n : ℕ) → n < length hall.connections → (connection_at hall n).closed ≡ true
 
 -- the hall, with the connection of this number changed; unchanged where there is none
 abbrev pub with_connection : HallState → ℕ → (ConnectionState → ConnectionState) → HallState

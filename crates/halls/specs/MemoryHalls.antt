@@ -26,7 +26,7 @@ with_client_state connection client =
       closed = client.closed;
     }
 
--- likewise the connections of the first clients
+-- the same of the connections of the first clients
 abbrev pub with_client_states : List ConnectionState → List ClientState → List ConnectionState
 with_client_states [] clients = []
 with_client_states (connection ∷ connections) [] = []

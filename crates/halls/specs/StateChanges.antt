@@ -1,7 +1,7 @@
 -- What each call on a hall makes of the hall's state, by what the call returned. This is the
 -- project's own model.
 use Rattle.std.specs.Prelude.{ℕ, ◌+◌, ◌==◌, List, [], ◌∷◌, ◌++◌, take, drop, true, Option, None}
-use Rattle.std.specs.Prelude.{Some, Result, Ok, Err, option_map}
+use Rattle.std.specs.Prelude.{Some, Result, Ok, Err, option_map, Bool, if◌then◌else◌}
 use Rattle.halls.specs.declared.hall.Event.{Event}
 use Rattle.halls.specs.declared.hall.Event.TheVariants.{Knock, Ready, Late, Quiet, Over}
 use Rattle.halls.specs.declared.hall.ConnectionId.{ConnectionId}
@@ -34,9 +34,17 @@ hall_after_event (Ok Quiet) hall = hall
 hall_after_event (Ok Over) hall = hall
 hall_after_event (Err e) hall = with_fault hall
 
+-- the hall after one more wait, in which more connections were taken or not
+abbrev pub with_wait : Bool → HallState → HallState
+with_wait takes_more hall =
+    record hall {
+      waits = hall.waits + 1;
+      open_waits = hall.open_waits + (if takes_more then 1 else 0);
+    }
+
 -- A connection whose time is up is broken; else a wait only counts.
-abbrev pub hall_after_wait : {E : Type 0} → Result Event E → HallState → HallState
-hall_after_wait result hall = hall_after_event result (record hall { waits = hall.waits + 1 })
+abbrev pub hall_after_wait : {E : Type 0} → Bool → Result Event E → HallState → HallState
+hall_after_wait takes_more result hall = hall_after_event result (with_wait takes_more hall)
 
 -- the first of the texts, and none where there is none
 abbrev pub first_text : List (List ℕ) → List ℕ
@@ -110,7 +118,7 @@ hall_after_close n hall = with_connection hall n with_close
 -- what a call made of the hall
 abbrev pub hall_after_call : HallState → Call → HallState
 hall_after_call hall (Listen address result) = hall_after_listen address.now result hall
-hall_after_call hall (Wait result) = hall_after_wait result hall
+hall_after_call hall (Wait takes_more result) = hall_after_wait takes_more result hall
 hall_after_call hall (Accept place result) = hall_after_accept place result hall
 hall_after_call hall (Read id buf result) = hall_after_read id.number buf.now result hall
 hall_after_call hall (Write id piece result) = hall_after_write id.number piece.now result hall

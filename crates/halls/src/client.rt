@@ -1,4 +1,4 @@
-// Clients in memory, which send what they are told to, when they are told to.
+// Clients in memory, which send their bytes when moves say so.
 ghost use Rattle.std.specs.Prelude.{◌≡◌, ◌<◌, Some, length};
 ghost use Rattle.halls.specs.inner.Clients.{client_after_read, client_after_write, closed_client};
 ghost use Rattle.halls.specs.MemoryHalls.{new_client};

@@ -53,7 +53,8 @@ pub trait Hall {
     /// Waits until a connection can go on or its time is up, or until one can be accepted, where
     /// `takes_more` says that it would be.
     fn wait(&mut self, takes_more: bool) -> Result<Event, Failed>
-        ensures counts_wait { Self.state self.new ≡ hall_after_wait result (Self.state self.old) }
+        ensures counts_wait { Self.state self.new
+            ≡ hall_after_wait takes_more result (Self.state self.old) }
         ensures truthful { MayReport (Self.state self.old) takes_more result };
 
     /// Accepts the next connection for this place. None where none is there.

@@ -12,7 +12,8 @@ use xcap_io::Failed;
 #[derive(Clone, Copy, Drop)]
 pub enum Call<'a> {
     Listen(&'a [u8], Result<(), Failed>),
-    Wait(Result<Event, Failed>),
+    /// With whether more connections were taken.
+    Wait(bool, Result<Event, Failed>),
     Accept(usize, Result<Option<ConnectionId>, Failed>),
     /// With the buffer as the read left it.
     Read(ConnectionId, &'a [u8], Result<Progress, Failed>),

@@ -231,7 +231,7 @@ impl Hall for MemHall {
 
     fn wait(&mut self, takes_more: bool) -> Result<Event, Failed> {
         let result = self.next_event(takes_more);
-        self.log = self.log.with_call(&Call::Wait(result));
+        self.log = self.log.with_call(&Call::Wait(takes_more, result));
         result
     }
 

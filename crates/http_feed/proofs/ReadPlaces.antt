@@ -1,5 +1,5 @@
 -- What is decided at each place up to which an item was read, and what is held then.
-use Rattle.std.proofs.Common.{◌≡◌, ℕ, ◌+◌, ◌-◌, ◌<◌, ◌≤◌, ◌⊎◌, inl, inr, Bool, true, false, List, [], ◌∷◌, ◌++◌, length, take, drop, map, slice_range, Result, Ok, Err, IfOk, OnErr, refl, sym, ap, subst, ◌∙◌, arith, length-append, length-drop, append_assoc, take-append-drop}
+use Rattle.std.proofs.Common.{◌≡◌, ℕ, ◌+◌, ◌-◌, ◌<◌, ◌≤◌, ◌⊎◌, inl, inr, Bool, true, false, List, [], ◌∷◌, ◌++◌, length, take, drop, map, slice_range, Result, Ok, Err, IfOk, MatchResult, OnErr, refl, sym, ap, subst, ◌∙◌, arith, length-append, length-drop, append_assoc, take-append-drop}
 use Rattle.std.proofs.lemmas.Bool.{cases_eq}
 use Rattle.std.proofs.lemmas.List.{append-nil, drop-drop, length-take-le, take-append-le, drop-append-le, drop_all, take_rest}
 use Rattle.httparse.specs.Ascii.{line_feed}
@@ -32,7 +32,7 @@ use Rattle.http_feed.specs.declared.item_reader.ReadPlace.{ReadPlace}
 use Rattle.http_feed.specs.declared.item_reader.ReadPlace.TheVariants.{Head, Body, Chunks}
 use Rattle.http_feed.specs.declared.item_reader.ReadStep.{ReadStep}
 use Rattle.http_feed.specs.Feeds.{IsDecided, IsWaiting}
-use Rattle.http_feed.specs.inner.Places.{IsInBody, IsInChunks, HoldsBytes, IsReachablePlace, HasWholeChunks, AnswersStep, MayAnswerStep}
+use Rattle.http_feed.specs.inner.Places.{IsInBody, IsInChunks, HoldsBytes, IsReachablePlace, HasWholeChunks, AnswersStep}
 use Rattle.http_feed.specs.inner.Buffers.{ReadBufferState, ChunkDataState}
 
 -- Items that are no request are first, whatever follows.
@@ -327,7 +327,7 @@ holds_next bytes d = (omega arith, no_head_in_none, refl)
 -- When out of memory the place is the same.
 
 pub or_not : {E : Type 0} (before : ℕ) (given : List ℕ) (place : ReadPlace) (result : Result ReadStep E) (old new : ReadBufferState) (d d' : ChunkDataState) → HoldsBytes place old.bytes d.decoding given → IfOk result (λ step. AnswersStep before given step new.bytes d'.decoding)
-    → OnErr result ((new ≡ old) × (d' ≡ d)) → MayAnswerStep before given place result new.bytes d'.decoding
+    → OnErr result ((new ≡ old) × (d' ≡ d)) → MatchResult result (λ step. AnswersStep before given step new.bytes d'.decoding) (λ _. HoldsBytes place new.bytes d'.decoding given)
 or_not before given place (Ok step) old new d d' holds answers unchanged = answers
 or_not before given place (Err e) old new d d' holds answers unchanged =
     subst (λ (h : ReadBufferState). HoldsBytes place h.bytes d'.decoding given) (sym unchanged.0)

@@ -18,7 +18,7 @@ const START: ChunkState = ChunkState::Size {
 #[derive(Drop)]
 pub struct ChunkData {
     state: ChunkState,
-    data: Vec<u8>,
+    bytes: Vec<u8>,
 }
 
 impl Model for ChunkData {
@@ -29,11 +29,11 @@ impl Model for ChunkData {
     ghost Value = { ChunkDataState };
 
     ghost view = { λ d. record {
-      decoding = decoding d.state d.data.items;
-      capacity = vec_capacity d.data;
+      decoding = decoding d.state d.bytes.items;
+      capacity = vec_capacity d.bytes;
     } };
 
-    ghost invariant = { λ d. IsWithinLimits d.state (length d.data.items) };
+    ghost invariant = { λ d. IsWithinLimits d.state (length d.bytes.items) };
 }
 
 impl ChunkData {
@@ -44,7 +44,7 @@ impl ChunkData {
     {
         ChunkData {
             state: START,
-            data: Vec::new(alloc),
+            bytes: Vec::new(alloc),
         }
     }
 
@@ -54,8 +54,8 @@ impl ChunkData {
         ensures freed { self.new.capacity ≡ 0 }
     {
         self.state = START;
-        self.data.clear();
-        self.data.shrink_to_fit();
+        self.bytes.clear();
+        self.bytes.shrink_to_fit();
     }
 
     pub fn state(&self) -> ChunkState
@@ -68,13 +68,13 @@ impl ChunkData {
     pub fn data(&self) -> &[u8]
         ensures exact { result.now ≡ self.now.decoding.body }
     {
-        &self.data
+        &self.bytes
     }
 
     pub fn capacity(&self) -> usize
         ensures exact { result ≡ self.now.capacity }
     {
-        self.data.capacity()
+        self.bytes.capacity()
     }
 
     fn is_settled(&self) -> bool
@@ -98,7 +98,7 @@ impl ChunkData {
             ≤ self.new.capacity }
     {
         let count = left.min(raw.len());
-        match self.data.extend_from_slice(&raw[..count]) {
+        match self.bytes.extend_from_slice(&raw[..count]) {
             Ok(()) => self.state = ChunkState::Data { left: left - count },
             Err(_) => unreachable!(),
         }
@@ -112,7 +112,7 @@ impl ChunkData {
         ensures same_body { self.new.decoding.body ≡ self.old.decoding.body }
         ensures same_capacity { self.new.capacity ≡ self.old.capacity }
     {
-        self.state = next_state(self.state, self.data.len(), byte);
+        self.state = next_state(self.state, self.bytes.len(), byte);
     }
 
     // Reads at least one byte, and returns how many.
@@ -155,7 +155,7 @@ impl ChunkData {
         ensures same_decoding { self.new.decoding ≡ self.old.decoding }
         ensures err_unchanged { OnErr result (self.new ≡ self.old) }
     {
-        self.data.try_reserve(count)
+        self.bytes.try_reserve(count)
     }
 
     // Reads until the state is settled or all bytes are read, and returns how many it read. It

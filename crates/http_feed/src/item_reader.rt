@@ -1,8 +1,9 @@
 // Reads the next item of the bytes held, from the place that was reached before.
 ghost use Rattle.std.specs.Prelude.{◌≡◌, ◌≤◌, ◌+◌, List, ℕ, length, take, drop, false, IfOk, OnErr};
+ghost use Rattle.std.specs.Prelude.{MatchResult};
 ghost use Rattle.http_wire.specs.Heads.{HasNoHead};
 ghost use Rattle.http_wire.specs.inner.ChunkDecoder.{Decoding, DecodesBytes, is_settled};
-ghost use Rattle.http_feed.specs.inner.Places.{AnswersStep, MayAnswerStep, HoldsBytes, IsInBody};
+ghost use Rattle.http_feed.specs.inner.Places.{AnswersStep, HoldsBytes, IsInBody};
 ghost use Rattle.http_feed.specs.inner.Places.{IsInChunks};
 ghost use Rattle.http_feed.specs.inner.Places.{IsReachablePlace, HasWholeChunks};
 
@@ -172,7 +173,7 @@ fn read_head(
 }
 
 // The next item after `before` requests, or none if none is complete in the bytes held.
-pub fn read_on(
+pub fn read_item(
     alloc: Global,
     held: &mut ReadBuffer,
     chunks: &mut ChunkData,
@@ -181,7 +182,9 @@ pub fn read_on(
 ) -> Result<ReadStep, AllocError>
     requires placed { IsReachablePlace place held.old.bytes }
     ensures answers { (given : List ℕ) → HoldsBytes place held.old.bytes chunks.old.decoding given
-        → MayAnswerStep before given place result held.new.bytes chunks.new.decoding }
+        → MatchResult result
+        (λ step. AnswersStep before given step held.new.bytes chunks.new.decoding)
+        (λ _. HoldsBytes place held.new.bytes chunks.new.decoding given) }
     ensures err_unchanged { OnErr result (held.new ≡ held.old) }
 {
     match place {

@@ -7,7 +7,7 @@ ghost use Rattle.http_feed.specs.inner.Buffers.{spent_feed};
 ghost use Rattle.http_feed.specs.inner.Places.{LeavesRequests, IsCounted};
 
 use crate::chunk_data::ChunkData;
-use crate::item_reader::{ReadPlace, ReadStep, read_on};
+use crate::item_reader::{ReadPlace, ReadStep, read_item};
 use crate::read_buffer::ReadBuffer;
 use http_wire::Asked;
 use http_wire::reader_parts::MAX_HELD_BYTES;
@@ -52,7 +52,12 @@ impl Model for RequestFeed {
     } };
 
     ghost invariant = { λ f.
-        ArePartsOfFeed f.place f.held f.chunks f.given.history.now.given f.requests f.spent };
+        ArePartsOfFeed f.place f.held f.chunks
+        (record {
+          held = f.given.history.now.given;
+          requests = f.requests;
+          spent = f.spent;
+        }) };
 }
 
 impl RequestFeed {
@@ -170,7 +175,7 @@ impl RequestFeed {
         if self.spent {
             return Ok(Some(Asked::End));
         }
-        let step = read_on(
+        let step = read_item(
             alloc,
             &mut self.held,
             &mut self.chunks,

@@ -14,10 +14,12 @@ use Rattle.http_wire.specs.ConnectionItems.{Item, asks, bad, too_long, coded, Is
 use Rattle.http_wire.specs.ServedConnections.{PendingInput, ItemAnswer, ClosesConnection, no_more, last_item, no_memory, KeepsConnectionOpen}
 use Rattle.http_wire.proofs.Buffers.{buffered}
 use Rattle.http_wire.proofs.WholeItems.{asks-append}
+use Rattle.http_wire.specs.declared.close_reason.CloseReason.{CloseReason}
 use Rattle.http_wire.specs.declared.close_reason.CloseReason.TheVariants.{Closed, ReadFailed, WriteFailed}
 use Rattle.http_serve.specs.FixedReplies.{fixed_reply}
 use Rattle.http_serve.specs.ItemAnswers.{AnswersNextRequest, IsNoneOrReadRequest, IsFixedReply}
 use Rattle.http_serve.specs.inner.ConnectionTurns.{MakesTurn, KeepsOpen, ConnectionTurn}
+use Rattle.http_serve.specs.inner.SentReplies.{SendsReply}
 
 -- the next item is the first one
 first_item : (before : ℕ) (given : List ℕ) (now : InputState) (item : Item) (held : List ℕ) → IsNextItem before given now item held → IsKnownFirstItem before given now.ended item
@@ -153,6 +155,18 @@ module _ {M W E : Type 0} (Step : M → Request → List ℕ → M → Option E 
           (goes_so Step request_reader.requests bytes mid.inward machine next reply edit request_reader'.held asked a.answer answer goes_on);
       kept = kept;
     }
+
+    -- a reply was sent
+    pub turn_of_sent : (ending : Option CloseReason) → SendsReply ending reply mid.taken new.taken → ConnectionTurn Step Keeps ending (record { request_reader = request_reader; machine = machine; stream = old; watchers = watchers }) (record { request_reader = request_reader'; machine = next; stream = new; watchers = watchers' })
+    turn_of_sent None sent = turn_of_request sent.0 sent.1
+    turn_of_sent (Some Closed) sent = turn_of_close sent.0 sent.1
+    turn_of_sent (Some WriteFailed) sent = turn_of_failed_write sent
+    turn_of_sent (Some ReadFailed) sent = absurd sent
+
+-- the reply after which a connection goes on doesn't close
+pub sent_open : (ending : Option CloseReason) (reply : SentReply) (old new : List ℕ) → SendsReply ending reply old new → ending ≡ None → reply.closes ≡ false
+sent_open None reply old new sent is = sent.0
+sent_open (Some ended) reply old new sent is = let no : ⊥ = cc in absurd no
 
 -- a reader whose request is answered without closing goes on
 pub gives_on : {M E : Type 0} (F : Type 0) (Step : M → Request → List ℕ → M → Option E → Type 0) (old new : RequestReaderState) (asked : Asked) (machine next : M) (reply : SentReply) (edit : Option E)

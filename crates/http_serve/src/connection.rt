@@ -1,22 +1,26 @@
 //! Serves one connection to its end.
-ghost use Rattle.std.specs.Prelude.{◌≡◌, ℕ, suc, ◌+◌, false, None, IfSome};
+ghost use Rattle.std.specs.Prelude.{◌≡◌, ℕ, suc, ◌+◌, false, [], None, IfSome};
+ghost use Rattle.xcap_io.specs.StreamStates.{DiffersByWrites};
 ghost use Rattle.http_wire.specs.NextRequests.{fresh_request_reader};
 ghost use Rattle.http_serve.specs.ServedStreams.{ServesStream};
-ghost use Rattle.http_serve.specs.ItemAnswers.{AnswersNextRequest, IsNoneOrReadRequest};
+ghost use Rattle.http_serve.specs.ItemAnswers.{AnswersNextRequest};
+ghost use Rattle.http_serve.specs.inner.AskedRequests.{HasRequest};
+ghost use Rattle.http_serve.specs.ItemAnswers.{IsNoneOrReadRequest};
 ghost use Rattle.http_serve.specs.FaultCounts.{OnlyExchangesBytes};
 ghost use Rattle.http_serve.specs.inner.OpenFaultCounts.{CountsFaultOfEnding};
 ghost use Rattle.http_serve.specs.inner.ConnectionTurns.{KeepsOpen, ConnectionTurn};
+ghost use Rattle.http_serve.specs.inner.SentReplies.{SendsAnswer};
 ghost use Rattle.http_serve.specs.ReplyBytes.{StepsInBytes};
 
 use crate::connection_buffers::ConnectionBuffers;
-use crate::item_answers::{answer_next, notify_of_edit};
+use crate::item_answers::{notify_of_edit, try_answer};
 use crate::machine::Machine;
-use http_wire::{
-    Asked, CloseReason, LentReply, ReadFault, next_request, write_lent_through, write_reply_through,
-};
+use crate::sent_replies::{send_lent, send_reply};
+use http_wire::{Asked, CloseReason, LentReply, ReadFault, next_request};
+use reply_text::Reply;
 use std::alloc::AllocError;
 use watchers::Watchers;
-use xcap_io::{Failed, Line, Sink, Source};
+use xcap_io::{Line, Sink, Source, WriteBuffer};
 
 // The reply that the machine lends to the reader's result, if it does.
 fn lend_reply<'a, M: Machine>(machine: &'a M, asked: &Asked) -> Option<LentReply<'a>>
@@ -35,9 +39,35 @@ fn lend_reply<'a, M: Machine>(machine: &'a M, asked: &Asked) -> Option<LentReply
     }
 }
 
+// Replies to a request that the machine had no memory to answer: with a body that the machine
+// lends, if it does, else with the fixed 503.
+fn reply_without_memory<M: Machine, S: Sink>(
+    machine: &M,
+    sink: &mut S,
+    write_buffer: &mut WriteBuffer,
+    asked: &Asked,
+) -> Option<CloseReason>
+    requires empty { write_buffer.old ≡ [] }
+    requires is_request { HasRequest asked.now }
+    requires request_read { IsNoneOrReadRequest asked.now }
+    requires room_left { M.takes machine.now 1 }
+    ensures sends_answer { SendsAnswer (StepsInBytes M.steps) machine.now asked.now result
+        (S.state sink.old).taken (S.state sink.new).taken }
+    ensures counts_faults { CountsFaultOfEnding result (S.state sink.old) (S.state sink.new) }
+    ensures only_writes { DiffersByWrites (S.state sink.old) (S.state sink.new) }
+    ensures buffer_emptied { write_buffer.new ≡ [] }
+{
+    match lend_reply(machine, asked) {
+        Some(lent) => send_lent(sink, write_buffer, &lent),
+        None => {
+            let reply = Reply::fixed(503, true);
+            send_reply(sink, write_buffer, &reply)
+        }
+    }
+}
+
 // Reads the next request by a reader that isn't spent, answers it, notifies the watchers, and
-// replies: first with a body that the machine lends, if it does. None where the connection goes
-// on.
+// replies. None where the connection goes on.
 fn serve_next<M: Machine, L: Source + Sink, W: Watchers<M::Edit>>(
     machine: &mut M,
     buffers: &mut ConnectionBuffers,
@@ -69,28 +99,16 @@ fn serve_next<M: Machine, L: Source + Sink, W: Watchers<M::Edit>>(
         Ok(asked) => asked,
         Err(ReadFault) => return Some(CloseReason::ReadFailed),
     };
-    if let Some(lent) = lend_reply(machine, &asked) {
-        match write_lent_through(line, &mut buffers.write_buffer, &lent) {
-            Ok(()) => {}
-            Err(Failed) => return Some(CloseReason::WriteFailed),
+    match try_answer(machine, &asked) {
+        Ok(None) => Some(CloseReason::Closed),
+        Ok(Some(answered)) => {
+            notify_of_edit(watchers, &answered.edit);
+            send_reply(line, &mut buffers.write_buffer, &answered.reply)
         }
-        if lent.closes() {
-            return Some(CloseReason::Closed);
+        Err(AllocError) => {
+            reply_without_memory(machine, line, &mut buffers.write_buffer, &asked)
         }
-        return None;
     }
-    let Some(answered) = answer_next(machine, &asked) else {
-        return Some(CloseReason::Closed);
-    };
-    notify_of_edit(watchers, &answered.edit);
-    match write_reply_through(line, &mut buffers.write_buffer, &answered.reply) {
-        Ok(()) => {}
-        Err(Failed) => return Some(CloseReason::WriteFailed),
-    }
-    if answered.reply.closes() {
-        return Some(CloseReason::Closed);
-    }
-    None
 }
 
 // The turns of a new connection, until one ends it.
@@ -116,8 +134,9 @@ fn serve_requests<M: Machine, L: Source + Sink, W: Watchers<M::Edit>>(
 
 /// Serves a connection: each request is read, answered by the machine, reported to the watchers if
 /// it made a change, and replied to, in this order, until a reply closes the connection, its bytes
-/// end, or a read or a write fails. What is no request gets its fixed reply, and when out of
-/// memory a request gets the fixed 503; both close. After a failed read there is no further reply.
+/// end, or a read or a write fails. What is no request gets its fixed reply, and a request that
+/// the machine has no memory for, and no lent reply to, gets the fixed 503; both close. After a
+/// failed read there is no further reply.
 /// Does not allocate before the first request. A connection has at most `MAX_REQUESTS` requests.
 pub fn serve_stream<M: Machine, L: Source + Sink, W: Watchers<M::Edit>>(
     machine: &mut M,

@@ -12,6 +12,7 @@ mod connection;
 mod connection_buffers;
 mod item_answers;
 mod machine;
+mod sent_replies;
 
 pub use accept_loop::{ServeSummary, StopReason, serve_streams};
 pub use connection::serve_stream;

@@ -27,8 +27,8 @@ pub trait Machine {
     ghost takes: { Self → ℕ → Type 0 };
 
     /// The reply to a request that was read on a connection, its body lent by the machine, which
-    /// is unchanged: None where the request is to be answered by `answer`. The reply closes the
-    /// connection exactly where the request does.
+    /// is unchanged: None where it lends none. A connection asks for it where `answer` is out of
+    /// memory. The reply closes the connection exactly where the request does.
     ///
     /// # Errors
     /// `AllocError` when out of memory.

@@ -8,8 +8,8 @@ use Rattle.change_log.specs.LogContents.{Contents, with_change}
 use Rattle.change_log.specs.LogStates.{LogState, FailsToAppend, kept_contents}
 use Rattle.change_log.specs.LogHistories.{IsFoundBeforeOr, MayBeFound, Moment, HoldsAtEachMoment}
 use Rattle.change_log.proofs.Passing.{no_call, weaker}
-use Rattle.change_records.specs.Records.{IsRecordable, change_record, recorded}
-use Rattle.change_records.proofs.Again.{record_again, recordable_again, recorded_again}
+use Rattle.change_records.specs.Records.{IsRecordable, change_record, kept_request}
+use Rattle.change_records.proofs.Again.{record_again, recordable_again, kept_request_again}
 use Rattle.logged_state.specs.DurableAnswers.{Accepts, Answers, AnswersAll, Call, DurableState, FindsChange, stays, appended, not_appended}
 use Rattle.logged_state.specs.Restarts.{ComesTo, IsKept, IsRecorded, KeepsCall, KeepsCalls, MakesChanges, Survives, SurvivesCall}
 
@@ -18,7 +18,7 @@ all_and_one P [] x all one = (one, tt)
 all_and_one P (y ∷ ys) x all one = (all.0, all_and_one P ys x all.1 one)
 
 module _ {M E : Type 0} (Step : M → Request → SentReply → M → Option E → Type 0) (Begins : List (List ℕ) → ℕ → M → Type 0)
-    (suffice : (m : M) (request : Request) (reply : SentReply) (next : M) (edit : E) → Step m request reply next (Some edit) → (again : SentReply) × Step m (recorded request) again next (Some edit)) where
+    (suffice : (m : M) (request : Request) (reply : SentReply) (next : M) (edit : E) → Step m request reply next (Some edit) → (again : SentReply) × Step m (kept_request request) again next (Some edit)) where
   one_change_more : (requests : List Request) (m mid n : M) (request : Request) (reply : SentReply) (edit : E) → MakesChanges Step Begins m requests mid → Step mid request reply n (Some edit) → MakesChanges Step Begins m (requests ++ request ∷ []) n
   one_change_more [] m mid n request reply edit made step = (reply, n, edit, subst (λ (x : M). Step x request reply n (Some edit)) made step, refl)
   one_change_more (first ∷ requests) m mid n request reply edit made step =
@@ -30,14 +30,14 @@ module _ {M E : Type 0} (Step : M → Request → SentReply → M → Option E �
       let again = suffice m request reply n edit step in
       record {
         origin = comes.origin;
-        requests = comes.requests ++ recorded request ∷ [];
+        requests = comes.requests ++ kept_request request ∷ [];
         begins = comes.begins;
-        told = all_and_one IsRecorded comes.requests (recorded request) comes.told (recordable_again request recordable, recorded_again request);
+        told = all_and_one IsRecorded comes.requests (kept_request request) comes.told (recordable_again request recordable, kept_request_again request);
         changes =
             ap (λ (l : List (List ℕ)). l ++ change_record request ∷ []) comes.changes
             ∙ ap (λ (r : List ℕ). map change_record comes.requests ++ r ∷ []) (sym (record_again request))
-            ∙ sym (map-append change_record comes.requests (recorded request ∷ []));
-        made = one_change_more comes.requests comes.origin m n (recorded request) again.0 edit comes.made again.1;
+            ∙ sym (map-append change_record comes.requests (kept_request request ∷ []));
+        made = one_change_more comes.requests comes.origin m n (kept_request request) again.0 edit comes.made again.1;
       }
 
   with_pending : (m : M) (pending : Option Request) (found : Contents) → ComesTo Step Begins found m → Survives Step Begins m pending found

@@ -6,12 +6,12 @@ use Rattle.reply_text.specs.ReplyHeads.{SentReply}
 use Rattle.http_wire.specs.declared.request.Request.{Request}
 use Rattle.change_log.specs.LogContents.{Contents}
 use Rattle.change_log.specs.LogHistories.{Moment, HoldsAtEachMoment}
-use Rattle.change_records.specs.Records.{IsRecordable, change_record, recorded}
+use Rattle.change_records.specs.Records.{IsRecordable, change_record, kept_request}
 use Rattle.logged_state.specs.DurableAnswers.{Accepts, Answers, Call, DurableState}
 
 -- the request is as its record gives it
 abbrev pub IsRecorded : Request → Type 0
-IsRecorded request = IsRecordable request × (recorded request ≡ request)
+IsRecorded request = IsRecordable request × (kept_request request ≡ request)
 
 -- Begins says that a snapshot of these parts, with this next number, is of a state.
 module _ {M E : Type 0} (Step : M → Request → SentReply → M → Option E → Type 0)

@@ -5,7 +5,7 @@ ghost use Rattle.http_wire.specs.declared.request.Request.{Request as TheRequest
 ghost use Rattle.request_checks.specs.Methods.{method_of};
 ghost use Rattle.change_log.specs.LogContents.{next_number};
 ghost use Rattle.change_log.specs.LogStates.{kept_contents};
-ghost use Rattle.change_records.specs.Records.{IsRecordable, is_writing, recorded};
+ghost use Rattle.change_records.specs.Records.{IsRecordable, is_writing, kept_request};
 ghost use Rattle.logged_state.specs.DurableAnswers.{Answers, FindsChange};
 
 use change_log::ChangeLog;
@@ -54,5 +54,5 @@ pub trait DurableMachine {
     /// A request as its record gives it makes the same change.
     ghost records_suffice: { (m : Self) (request : TheRequest) (reply : SentReply) (next : Self)
         (edit : Self.Edit) → steps m request reply next (Some edit)
-        → (again : SentReply) × steps m (recorded request) again next (Some edit) };
+        → (again : SentReply) × steps m (kept_request request) again next (Some edit) };
 }

@@ -1,6 +1,6 @@
 -- The places of a hall after a call: exactly the open connections are at them.
-use Rattle.std.proofs.Common.{inl, inr, ◌≡◌, ◌≢◌, ℕ, zero, suc, ◌+◌, ◌<◌, List, [], ◌∷◌, ◌++◌, length, drop, Option, None, Some, Result, Ok, Err, Bool, true, refl, sym, ap, subst, ◌∙◌, arith}
-use Rattle.std.specs.Prelude.{slice_set, slice_index_or, option_map}
+use Rattle.std.proofs.Common.{inl, inr, ◌≡◌, ◌≢◌, ℕ, zero, suc, ◌+◌, ◌<◌, List, [], ◌∷◌, ◌++◌, length, drop, Option, None, Some, Result, Ok, Err, Bool, true, false, refl, sym, ap, subst, ◌∙◌, arith}
+use Rattle.std.specs.Prelude.{OnErr, slice_set, slice_index_or, option_map}
 use Rattle.std.proofs.lemmas.Bool.{cases_eq, cases_lt}
 use Rattle.std.proofs.lemmas.List.{length-set, length_push, get_or-set_same, get_or-set_other, get_or_append_left, get_or_push, get_or_past}
 use Rattle.halls.specs.declared.hall.ConnectionId.{ConnectionId}
@@ -8,8 +8,8 @@ use Rattle.halls.specs.declared.hall.Event.{Event}
 use Rattle.halls.specs.declared.hall.Event.TheVariants.{Knock, Ready, Late, Quiet, Over}
 use Rattle.halls.specs.declared.hall.Progress.{Progress}
 use Rattle.halls.specs.declared.hall.Progress.TheVariants.{Moved, Blocked}
-use Rattle.halls.specs.StateChanges.{hall_after_close, hall_after_listen, hall_after_read, hall_after_wait, hall_after_write, with_next_connection, with_break, with_close, first_text, connection_after_read, connection_after_write, with_report}
-use Rattle.halls.specs.HallState.{ConnectionState, HallState, new_connection, connection_at, new_hall, with_connection}
+use Rattle.halls.specs.StateChanges.{hall_after_close, hall_after_listen, hall_after_read, hall_after_wait, hall_after_write, with_wait, with_next_connection, with_break, with_close, first_text, connection_after_read, connection_after_write, with_report}
+use Rattle.halls.specs.HallState.{AreAllClosed, ConnectionState, HallState, new_connection, connection_at, new_hall, with_connection}
 use Rattle.halls.specs.CallResults.{IsOpen, MayReport}
 use Rattle.poll_halls.specs.inner.ConnectionPlaces.{IsAtItsPlace, HoldsBetweenCalls, MayNameConnection, AreFreePlaces, id_at, number_at}
 
@@ -98,13 +98,13 @@ pub kept_listen : {E : Type 0} (numbers : List (Option ℕ)) (begun : ℕ) (hall
 kept_listen numbers begun hall address (Ok x) kept = kept_by numbers begun hall (record hall { listening = Some address }) refl refl kept
 kept_listen numbers begun hall address (Err e) kept = kept_by numbers begun hall (record hall { faults = hall.faults + 1 }) refl refl kept
 
-pub kept_wait : {E : Type 0} (numbers : List (Option ℕ)) (begun : ℕ) (hall : HallState) (result : Result Event E) → HoldsBetweenCalls numbers begun hall → HoldsBetweenCalls numbers begun (hall_after_wait result hall)
-kept_wait numbers begun hall (Ok Knock) kept = kept_by numbers begun hall _ refl refl kept
-kept_wait numbers begun hall (Ok (Ready id)) kept = kept_on numbers begun (record hall { waits = hall.waits + 1 }) id.number with_report (record { place = λ x. refl; closed = λ x. refl; hidden = λ x h. h }) (kept_by numbers begun hall _ refl refl kept)
-kept_wait numbers begun hall (Ok (Late id)) kept = kept_on numbers begun (record hall { waits = hall.waits + 1 }) id.number with_break (record { place = λ x. refl; closed = λ x. refl; hidden = λ x h. h }) (kept_by numbers begun hall _ refl refl kept)
-kept_wait numbers begun hall (Ok Quiet) kept = kept_by numbers begun hall _ refl refl kept
-kept_wait numbers begun hall (Ok Over) kept = kept_by numbers begun hall _ refl refl kept
-kept_wait numbers begun hall (Err e) kept = kept_by numbers begun hall _ refl refl kept
+pub kept_wait : {E : Type 0} (numbers : List (Option ℕ)) (begun : ℕ) (hall : HallState) (more : Bool) (result : Result Event E) → HoldsBetweenCalls numbers begun hall → HoldsBetweenCalls numbers begun (hall_after_wait more result hall)
+kept_wait numbers begun hall more (Ok Knock) kept = kept_by numbers begun hall _ refl refl kept
+kept_wait numbers begun hall more (Ok (Ready id)) kept = kept_on numbers begun (with_wait more hall) id.number with_report (record { place = λ x. refl; closed = λ x. refl; hidden = λ x h. h }) (kept_by numbers begun hall _ refl refl kept)
+kept_wait numbers begun hall more (Ok (Late id)) kept = kept_on numbers begun (with_wait more hall) id.number with_break (record { place = λ x. refl; closed = λ x. refl; hidden = λ x h. h }) (kept_by numbers begun hall _ refl refl kept)
+kept_wait numbers begun hall more (Ok Quiet) kept = kept_by numbers begun hall _ refl refl kept
+kept_wait numbers begun hall more (Ok Over) kept = kept_by numbers begun hall _ refl refl kept
+kept_wait numbers begun hall more (Err e) kept = kept_by numbers begun hall _ refl refl kept
 
 passes_in : {E : Type 0} (buf : List ℕ) (result : Result Progress E) → Leaves (λ (x : ConnectionState). connection_after_read buf result (record x { reads = x.reads + 1 }))
 passes_in buf (Ok (Moved count)) = record { place = λ x. refl; closed = λ x. refl; hidden = λ x h. ap (option_map (drop count)) h }
@@ -286,3 +286,20 @@ may_report numbers begun hall takes_more (Ok (Late id)) kept named = (kept.held 
 may_report numbers begun hall takes_more (Ok Quiet) kept named = named
 may_report numbers begun hall takes_more (Ok Over) kept named = absurd named
 may_report numbers begun hall takes_more (Err e) kept named = named
+
+-- where all places are free, all connections are closed
+pub free_all_closed : (numbers : List (Option ℕ)) (begun : ℕ) (hall : HallState) → HoldsBetweenCalls numbers begun hall → AreFreePlaces numbers → AreAllClosed hall
+free_all_closed numbers begun hall kept free = λ n below. by_closed n below (connection_at hall n).closed refl
+  where
+    none_is_some : (n : ℕ) → None ≡ Some n → ⊥
+    none_is_some n e = cc
+
+    by_closed : (n : ℕ) → n < length hall.connections → (b : Bool) → (connection_at hall n).closed ≡ b → b ≡ true
+    by_closed n below true is = refl
+    by_closed n below false is =
+        let place : ℕ = (connection_at hall n).place in
+        absurd (none_is_some n (sym (free place) ∙ (kept.held place n).1 (record { begun = below; at_place = refl; not_closed = is })))
+
+pub failed_alone : {A E : Type 0} (result : Result A E) (numbers : List (Option ℕ)) (begun : ℕ) (hall : HallState) → HoldsBetweenCalls numbers begun hall → OnErr result (AreFreePlaces numbers) → OnErr result (AreAllClosed hall)
+failed_alone (Ok x) numbers begun hall kept alone = alone
+failed_alone (Err e) numbers begun hall kept alone = free_all_closed numbers begun hall kept alone

@@ -8,7 +8,7 @@ use mio::{Events, Interest, Poll, Token};
 use std::alloc::Global;
 use std::io;
 use std::io::ErrorKind;
-use std::net::{Net, ToSocketAddrs};
+use std::net::{Net, Shutdown, ToSocketAddrs};
 use std::time::{Clock, Duration, Instant};
 use xcap_io::Failed;
 
@@ -138,6 +138,11 @@ impl<N: Net + Clock + Drop> Sockets for MioSockets<N> {
                 _ => Err(Failed),
             },
         }
+    }
+
+    fn finish(&self, stream: &TcpStream) {
+        // A connection that is gone needs no end.
+        let _ = stream.shutdown(Shutdown::Write);
     }
 
     fn now(&self) -> Option<Instant> {

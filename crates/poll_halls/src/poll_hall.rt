@@ -1,15 +1,18 @@
 // Many connections over sockets, by polling.
 ghost use Rattle.std.specs.Prelude.{◌≡◌, ◌-◌, ◌^◌, ◌<◌, None, length, slice_index_or, IfOk};
-ghost use Rattle.std.specs.Prelude.{IfSome, IsTrue, slice_set};
+ghost use Rattle.std.specs.Prelude.{IfSome, IsTrue, OnErr, slice_set};
 ghost use Rattle.halls.specs.StateChanges.{hall_after_accept, hall_after_read, hall_after_write};
-ghost use Rattle.halls.specs.HallState.{connection_at, new_hall};
+ghost use Rattle.halls.specs.HallState.{AreAllClosed, connection_at, new_hall};
 ghost use Rattle.halls.specs.CallResults.{IsOpen, MayRead, MayWrite, MayAccept};
 ghost use Rattle.poll_halls.specs.inner.ConnectionPlaces.{AreFreePlaces, IsAtItsPlace};
 ghost use Rattle.poll_halls.specs.inner.ConnectionPlaces.{HoldsBetweenCalls, MayNameConnection};
 ghost use Rattle.poll_halls.specs.SlotStreams.{ReadsSlot, WritesSlot};
 
+use crate::lingering::Lingering;
 pub use crate::slot::TimeLimits;
-use crate::slot::{Slot, Times, Waits, defer_at, read_at, record_readiness_at, rest_at, write_at};
+use crate::slot::{
+    Slot, Times, Waits, defer_at, read_at, record_readiness_at, rest_at, take_at, write_at,
+};
 use crate::sockets::{Readiness, Sockets};
 use halls::{Call, ConnectionId, Event, Hall, HallLog, Progress};
 use std::alloc::{AllocError, Global};
@@ -20,7 +23,7 @@ use xcap_io::Failed;
 /// is reported.
 const LONGEST_POLL: u64 = 1000;
 
-/// How many, where a connection was deferred.
+/// How many, where a connection was deferred or lingers.
 const DEFERRED_POLL: u64 = 20;
 
 /// Connections over sockets that are open at once. The connections are reported in rounds. After
@@ -32,6 +35,7 @@ pub struct PollHall<E: Sockets + Drop> {
     // the number of the connection at each place, and its socket
     numbers: Vec<Option<u64>>,
     slots: Vec<Option<Slot<E::Stream>>>,
+    lingering: Lingering<E::Stream>,
     times: Times,
     // where the round goes on
     from: usize,
@@ -39,6 +43,8 @@ pub struct PollHall<E: Sockets + Drop> {
     // last report of one
     knocks: bool,
     polled: bool,
+    // whether no connection can be accepted before another is closed
+    is_full: bool,
     begun: u64,
     log: HallLog,
     ghost kept: { HoldsBetweenCalls numbers.items begun log.state },
@@ -144,6 +150,22 @@ fn is_any_deferred<S: Drop>(slots: &[Option<Slot<S>>]) -> bool {
     false
 }
 
+// Ends the stream at a place. One that was written to and whose peer may still be sending lingers.
+fn end_stream<E: Sockets>(
+    sockets: &E,
+    slots: &mut Vec<Option<Slot<E::Stream>>>,
+    lingering: &mut Lingering<E::Stream>,
+    place: usize,
+    times: &Times,
+) {
+    if let Some(slot) = take_at(slots, place) {
+        if slot.lingers {
+            sockets.finish(&slot.stream);
+            lingering.add(slot.stream, times);
+        }
+    }
+}
+
 impl<E: Sockets + Drop> PollHall<E> {
     /// A hall that doesn't listen yet, with this many places.
     ///
@@ -160,15 +182,18 @@ impl<E: Sockets + Drop> PollHall<E> {
     {
         let numbers = free_places(alloc, places)?;
         let slots = free_places(alloc, places)?;
+        let lingering = Lingering::new(alloc)?;
         let now = sockets.now();
         Ok(PollHall {
             sockets,
             numbers,
             slots,
+            lingering,
             times: Times { now, limits },
             from: 0,
             knocks: true,
             polled: false,
+            is_full: false,
             begun: 0,
             log: HallLog::new(),
         })
@@ -179,7 +204,7 @@ impl<E: Sockets + Drop> PollHall<E> {
         if takes_more && self.knocks || find_ready(&self.numbers, &self.slots, 0).is_some() {
             return Duration::ZERO;
         }
-        if is_any_deferred(&self.slots) {
+        if is_any_deferred(&self.slots) || !self.lingering.is_empty() {
             return Duration::from_millis(DEFERRED_POLL);
         }
         Duration::from_millis(LONGEST_POLL)
@@ -195,18 +220,20 @@ impl<E: Sockets + Drop> PollHall<E> {
         self.polled = true;
         self.sockets.poll(longest)?;
         self.times.now = self.sockets.now();
+        self.lingering.drain(&self.times);
         end_deferrals(&mut self.slots);
         if record_all(&mut self.slots, self.sockets.readiness()) {
-            self.knocks = true;
+            self.knocks = !self.is_full;
         }
         Ok(())
     }
 
-    // A connection whose time is up: also one at rest, where another comes and no more are taken.
+    // A connection whose time is up: also one at rest, where another comes and no more are taken
+    // or can be.
     fn next_late(&self, takes_more: bool) -> Option<ConnectionId>
         ensures held { IfSome result (λ id. IsAtItsPlace self.now.numbers.items id) }
     {
-        if self.knocks && !takes_more {
+        if self.is_full || self.knocks && !takes_more {
             if let Some(id) = find_resting(&self.numbers, &self.slots) {
                 return Some(id);
             }
@@ -250,8 +277,18 @@ impl<E: Sockets + Drop> PollHall<E> {
             && self.begun < u64::MAX
     }
 
-    // The stream of the next connection, which gets this place.
+    // Whether no connection is open.
+    fn are_free(&self) -> bool
+        ensures all_free { IsTrue result → AreFreePlaces self.now.numbers.items }
+    {
+        self.numbers.iter().all(|number| number.is_none())
+    }
+
+    // The stream of the next connection, which gets this place. Where the system has none to give,
+    // as when no descriptor is left, none comes before another connection ends: that is a failure
+    // only where none is open.
     fn next_stream(&mut self, place: usize) -> Result<Option<E::Stream>, Failed>
+        ensures fails_alone { OnErr result (AreFreePlaces self.old.numbers.items) }
         ensures same_numbers { self.new.numbers.items ≡ self.old.numbers.items }
         ensures same_slots { length self.new.slots.items ≡ length self.old.slots.items }
         ensures same_log { self.new.log.state ≡ self.old.log.state }
@@ -263,9 +300,18 @@ impl<E: Sockets + Drop> PollHall<E> {
                 self.knocks = false;
                 Ok(None)
             }
+            Err(Failed) if !self.lingering.is_empty() => {
+                self.lingering.clear();
+                Ok(None)
+            }
             Err(Failed) => {
                 self.knocks = false;
-                Err(Failed)
+                self.is_full = true;
+                if self.are_free() {
+                    Err(Failed)
+                } else {
+                    Ok(None)
+                }
             }
         }
     }
@@ -276,6 +322,7 @@ impl<E: Sockets + Drop> PollHall<E> {
         requires slot_there { place < length self.old.slots.items }
         requires free { slice_index_or self.old.numbers.items place None ≡ None }
         requires may_count { self.old.begun < 2 ^ 64 - 1 }
+        ensures fails_alone { OnErr result (AreFreePlaces self.old.numbers.items) }
         ensures begins { self.new.log.state ≡ hall_after_accept place result self.old.log.state }
         ensures named { MayAccept place self.old.log.state result }
     {
@@ -314,11 +361,17 @@ impl<E: Sockets + Drop> Hall for PollHall<E> {
 
     fn wait(&mut self, takes_more: bool) -> Result<Event, Failed> {
         let result = self.next_event(takes_more);
-        self.log = self.log.with_call(&Call::Wait(result));
+        self.log = self.log.with_call(&Call::Wait(takes_more, result));
         result
     }
 
-    fn accept(&mut self, place: usize) -> Result<Option<ConnectionId>, Failed> {
+    fn accept(&mut self, place: usize) -> Result<Option<ConnectionId>, Failed>
+        ensures begins { ⟦<PollHall<E> as Hall>⟧.state self.new
+            ≡ hall_after_accept place result (⟦<PollHall<E> as Hall>⟧.state self.old) }
+        ensures named { MayAccept place (⟦<PollHall<E> as Hall>⟧.state self.old) result }
+        ensures fails_alone { OnErr result
+            (AreAllClosed (⟦<PollHall<E> as Hall>⟧.state self.old)) }
+    {
         if self.is_free(place) {
             return self.accept_at(place);
         }
@@ -359,10 +412,17 @@ impl<E: Sockets + Drop> Hall for PollHall<E> {
     }
 
     fn close(&mut self, id: ConnectionId) {
-        free_place(&mut self.slots, id.place);
+        end_stream(
+            &self.sockets,
+            &mut self.slots,
+            &mut self.lingering,
+            id.place,
+            &self.times,
+        );
         free_place(&mut self.numbers, id.place);
-        // A descriptor is free now, so what comes can be accepted.
+        // What comes can be accepted now.
         self.knocks = true;
+        self.is_full = false;
         self.log = self.log.with_call(&Call::Close(id));
     }
 

@@ -31,12 +31,12 @@ pub struct Times {
 
 impl Times {
     // The moment after this time.
-    fn deadline_after(&self, time: Duration) -> Option<Instant> {
+    pub fn deadline_after(&self, time: Duration) -> Option<Instant> {
         self.now?.checked_add(time)
     }
 
     // Whether this moment is over.
-    fn is_over(&self, moment: Option<Instant>) -> bool {
+    pub fn is_over(&self, moment: Option<Instant>) -> bool {
         match (self.now, moment) {
             (Some(now), Some(moment)) => now > moment,
             _ => false,
@@ -61,6 +61,8 @@ pub struct Slot<S: Drop> {
     // until the next poll
     pub is_deferred: bool,
     pub is_resting: bool,
+    // whether bytes were written to it and its peer may still be sending
+    pub lingers: bool,
     // the moments after which it is late: the first moves with its progress
     pub silent_until: Option<Instant>,
     pub served_until: Option<Instant>,
@@ -74,6 +76,7 @@ impl<S: Drop> Slot<S> {
             waits: Waits::Nothing,
             is_deferred: false,
             is_resting: false,
+            lingers: false,
             silent_until: times.deadline_after(times.limits.silence),
             served_until: times.deadline_after(times.limits.service),
         }
@@ -102,7 +105,10 @@ impl<S: Drop> Slot<S> {
                 Ok(Progress::Blocked)
             }
             ErrorKind::Interrupted => Ok(Progress::Blocked),
-            _ => Err(Failed),
+            _ => {
+                self.lingers = false;
+                Err(Failed)
+            }
         }
     }
 
@@ -117,6 +123,7 @@ impl<S: Drop> Slot<S> {
         match self.stream.read(buf) {
             Ok(count) => {
                 self.record_progress(times);
+                self.lingers = self.lingers && count > 0;
                 Ok(Progress::Moved(count))
             }
             Err(fault) => self.record_fault(fault.kind(), Waits::Readable),
@@ -134,6 +141,7 @@ impl<S: Drop> Slot<S> {
             Ok(0) => Err(Failed),
             Ok(count) => {
                 self.record_progress(times);
+                self.lingers = true;
                 Ok(Progress::Moved(count))
             }
             Err(fault) => self.record_fault(fault.kind(), Waits::Writable),
@@ -152,6 +160,7 @@ impl<S: Drop> Slot<S> {
     // Its connection is between two requests.
     fn rest(&mut self, times: &Times) {
         self.is_resting = true;
+        self.lingers = false;
         self.silent_until = times.deadline_after(times.limits.rest);
         self.served_until = None;
     }
@@ -208,6 +217,14 @@ pub fn write_at<S: Write + Drop>(
         Some(slot) => slot.write(piece, times),
         None => Err(Failed),
     }
+}
+
+// Takes the socket at a place.
+pub fn take_at<S: Drop>(slots: &mut Vec<Option<Slot<S>>>, place: usize) -> Option<Slot<S>> {
+    if place >= slots.len() {
+        return None;
+    }
+    slots[place].take()
 }
 
 // Notes what a poll found of the socket at a place.

@@ -26,7 +26,13 @@ pub trait Sockets {
     fn readiness(&self) -> &[Readiness];
 
     /// The next connection, whose stream gets this place. None where none is there.
+    ///
+    /// # Errors
+    /// `Failed` where the system has none to give, as when no descriptor is left.
     fn accept(&mut self, place: usize) -> Result<Option<Self::Stream>, Failed>;
+
+    /// Nothing more is written to the stream: its peer finds the end.
+    fn finish(&self, stream: &Self::Stream);
 
     /// The present moment. None where there is no clock.
     fn now(&self) -> Option<Instant>;

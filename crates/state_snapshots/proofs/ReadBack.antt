@@ -14,7 +14,7 @@ use Rattle.doc_names.specs.declared.doc_id.Auid.TheVariants.{ResourceLists, RlsS
 use Rattle.doc_names.specs.declared.doc_id.DocId.{DocId}
 use Rattle.doc_names.specs.declared.doc_id.Home.{Home}
 use Rattle.doc_names.specs.declared.doc_id.Home.TheVariants.{Global, User}
-use Rattle.state_snapshots.specs.Names.{IsWritable, IsWritableHome, IsWritableText}
+use Rattle.state_snapshots.specs.Names.{IsEncodableHome, IsEncodableName, IsEncodableText}
 use Rattle.state_snapshots.specs.Readings.{auid_at, document_of, home_at, id_after, id_at, number_at, start_of_bytes, text_at, text_of_block}
 use Rattle.state_snapshots.specs.Snapshots.{DocumentPart, Start, auid_number, document_part, home_bytes, name_bytes, start_part}
 
@@ -26,7 +26,7 @@ number_back n rest fits =
       from_be_bytes-to_be_bytes_8 n fits,
     ) refl
 
-text_back : (text rest : List ℕ) → IsWritableText text → text_at (block (encode_utf8_all text) ++ rest) ≡ Some (text, rest)
+text_back : (text rest : List ℕ) → IsEncodableText text → text_at (block (encode_utf8_all text) ++ rest) ≡ Some (text, rest)
 unfolding text_at
 text_back text rest is =
     let bytes = encode_utf8_all text in
@@ -34,7 +34,7 @@ text_back text rest is =
     ∙ ap (λ (b : Bool). cond b (Some (chars bytes, rest)) None) (is_utf8-from_IsUtf8 bytes (text, (is.characters, refl)))
     ∙ ap (λ (l : List ℕ). Some (l, rest)) (chars-encodes text is.characters)
 
-home_back : (home : Home) (rest : List ℕ) → IsWritableHome home → home_at (home_bytes home ++ rest) ≡ Some (home, rest)
+home_back : (home : Home) (rest : List ℕ) → IsEncodableHome home → home_at (home_bytes home ++ rest) ≡ Some (home, rest)
 home_back Global rest is = refl
 home_back (User xui) rest is = ap (λ (o : Option (List ℕ × List ℕ)). option_map (λ user. (User user.0, user.1)) o) (text_back xui rest is)
 
@@ -49,18 +49,18 @@ named auid home name = (record { auid = auid; home = home; name = name.0 }, name
 abbrev with_home : Auid → Home × List ℕ → Option (DocId × List ℕ)
 with_home auid home = option_map (named auid home.0) (text_at home.1)
 
-after_back : (id : DocId) (rest : List ℕ) → IsWritable id → id_after id.auid (home_bytes id.home ++ (block (encode_utf8_all id.name) ++ rest)) ≡ Some (id, rest)
+after_back : (id : DocId) (rest : List ℕ) → IsEncodableName id → id_after id.auid (home_bytes id.home ++ (block (encode_utf8_all id.name) ++ rest)) ≡ Some (id, rest)
 after_back id rest is =
     ap (λ (o : Option (Home × List ℕ)). option_and_then (with_home id.auid) o) (home_back id.home (block (encode_utf8_all id.name) ++ rest) is.0)
     ∙ ap (λ (o : Option (List ℕ × List ℕ)). option_map (named id.auid id.home) o) (text_back id.name rest is.1)
 
-id_back : (id : DocId) (rest : List ℕ) → IsWritable id → id_at (name_bytes id ++ rest) ≡ Some (id, rest)
+id_back : (id : DocId) (rest : List ℕ) → IsEncodableName id → id_at (name_bytes id ++ rest) ≡ Some (id, rest)
 id_back id rest is =
     ap (λ (o : Option Auid). option_and_then (λ auid. id_after auid ((home_bytes id.home ++ block (encode_utf8_all id.name)) ++ rest)) o) (own_auid id.auid)
     ∙ ap (id_after id.auid) (append_assoc (home_bytes id.home) (block (encode_utf8_all id.name)) rest)
     ∙ after_back id rest is
 
-pub document_back : (part : DocumentPart) → part.tag < 2 ^ 64 → IsWritable part.id → document_of (document_part part) ≡ Some part
+pub document_back : (part : DocumentPart) → part.tag < 2 ^ 64 → IsEncodableName part.id → document_of (document_part part) ≡ Some part
 document_back part fits is =
     ap (λ (o : Option (ℕ × List ℕ)). option_and_then with_tag o) (number_back part.tag (name_bytes part.id ++ part.text) fits)
     ∙ ap (λ (o : Option (DocId × List ℕ)). option_map (λ id. record { id = id.0; tag = part.tag; text = id.1 }) o) (id_back part.id part.text is)

@@ -17,8 +17,8 @@ use Rattle.doc_names.specs.declared.doc_id.DocId.{DocId}
 use Rattle.edit_ops.specs.Notes.{Note}
 use Rattle.store_core.specs.State.{Document, State, Version}
 use Rattle.store_core.specs.ValidStates.{IsValidHistory, IsSoundDocumentFor, IsValidState}
-use Rattle.state_snapshots.specs.Names.{IsWritable}
-use Rattle.state_snapshots.specs.Snapshots.{DocumentPart, Start, document_part, forgotten, part_of, snapshot_parts, start_of, without_earlier}
+use Rattle.state_snapshots.specs.Names.{IsEncodableName}
+use Rattle.state_snapshots.specs.Snapshots.{DocumentPart, Start, document_part, document_without_earlier, part_of, snapshot_parts, start_of, without_earlier}
 use Rattle.state_snapshots.specs.States.{AreOfState, ArePartsOf, IsPartOf}
 use Rattle.state_snapshots.proofs.ReadBack.{document_back, start_back}
 
@@ -30,7 +30,7 @@ printed t (Some usage) sound =
     let bytes = encode_utf8_all (document_print t) in
     subst (IsTextResult MAX_LEVELS [] bytes) (document_is_read MAX_LEVELS [] t refl sound.proper sound.low).read (text_answer MAX_LEVELS [] bytes)
 
-part_kept : (next : ℕ) (d : Document) → next < 2 ^ 64 → IsValidHistory next d → IsWritable d.id → IsPartOf (document_part (part_of d)) (forgotten d)
+part_kept : (next : ℕ) (d : Document) → next < 2 ^ 64 → IsValidHistory next d → IsEncodableName d.id → IsPartOf (document_part (part_of d)) (document_without_earlier d)
 part_kept next d fits kept writable = record {
   read = part_of d;
   is = document_back (part_of d) (omega (arith, kept.tags.0.1, fits)) writable;
@@ -41,13 +41,13 @@ part_kept next d fits kept writable = record {
   alone = refl;
 }
 
-parts_kept : (next : ℕ) (ds : List Document) → next < 2 ^ 64 → AllByRecursion (IsValidHistory next) ds → AllByRecursion (λ d. IsWritable d.id) ds → ArePartsOf (map (λ d. document_part (part_of d)) ds) (map forgotten ds)
+parts_kept : (next : ℕ) (ds : List Document) → next < 2 ^ 64 → AllByRecursion (IsValidHistory next) ds → AllByRecursion (λ d. IsEncodableName d.id) ds → ArePartsOf (map (λ d. document_part (part_of d)) ds) (map document_without_earlier ds)
 parts_kept next [] fits kept writable = tt
 parts_kept next (d ∷ ds) fits kept writable = (part_kept next d fits kept.0 writable.0, parts_kept next ds fits kept.1 writable.1)
 
-pub state_kept : (root : List ℕ) (m : State) → IsValidState m → m.next < 2 ^ 64 → AllByRecursion (λ d. IsWritable d.id) m.documents → AreOfState root (snapshot_parts root m) (without_earlier m)
+pub state_kept : (root : List ℕ) (m : State) → IsValidState m → m.next < 2 ^ 64 → AllByRecursion (λ d. IsEncodableName d.id) m.documents → AreOfState root (snapshot_parts root m) (without_earlier m)
 state_kept root m valid fits writable = (
-  start_back (start_of root m) (omega (arith, valid.few)) fits ∙ ap (λ (n : ℕ). Some (record { count = n; next = m.next; root = root })) (sym (length-map m.documents forgotten)),
+  start_back (start_of root m) (omega (arith, valid.few)) fits ∙ ap (λ (n : ℕ). Some (record { count = n; next = m.next; root = root })) (sym (length-map m.documents document_without_earlier)),
   parts_kept m.next m.documents fits valid.documents writable,
 )
 

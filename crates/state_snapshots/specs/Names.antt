@@ -5,14 +5,14 @@ use Rattle.doc_names.specs.declared.doc_id.DocId.{DocId}
 use Rattle.doc_names.specs.declared.doc_id.Home.{Home}
 use Rattle.doc_names.specs.declared.doc_id.Home.TheVariants.{Global, User}
 
--- it consists of characters, and its bytes in UTF-8 fit a block
-pub record IsWritableText (text : List ℕ) : Type 0 where
+-- the text consists of characters, and its bytes in UTF-8 fit a block
+pub record IsEncodableText (text : List ℕ) : Type 0 where
   pub characters : all_scalars text ≡ true
   pub short : length (encode_utf8_all text) < 2 ^ 32
 
-abbrev pub IsWritableHome : Home → Type 0
-IsWritableHome Global = Unit {0}
-IsWritableHome (User xui) = IsWritableText xui
+abbrev pub IsEncodableHome : Home → Type 0
+IsEncodableHome Global = Unit {0}
+IsEncodableHome (User xui) = IsEncodableText xui
 
-abbrev pub IsWritable : DocId → Type 0
-IsWritable id = IsWritableHome id.home × IsWritableText id.name
+abbrev pub IsEncodableName : DocId → Type 0
+IsEncodableName id = IsEncodableHome id.home × IsEncodableText id.name

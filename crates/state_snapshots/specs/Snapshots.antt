@@ -66,9 +66,9 @@ snapshot_parts root m =
 -- ---- what a snapshot doesn't keep
 
 -- a document with its present version alone
-abbrev pub forgotten : Document → Document
-forgotten d = record { id = d.id; now = record d.now { note = None }; earlier = [] }
+abbrev pub document_without_earlier : Document → Document
+document_without_earlier d = record { id = d.id; now = record d.now { note = None }; earlier = [] }
 
 -- the state without earlier versions
 abbrev pub without_earlier : State → State
-without_earlier m = record m { documents = map forgotten m.documents }
+without_earlier m = record m { documents = map document_without_earlier m.documents }

@@ -8,14 +8,14 @@ ghost use Rattle.state_snapshots.specs.Readings.{document_of, start_of_bytes};
 ghost use Rattle.state_snapshots.specs.Snapshots.{DocumentPart as ThePart, Start as TheStart};
 ghost use Rattle.state_snapshots.specs.Snapshots.{document_part, snapshot_parts, start_part};
 ghost use Rattle.state_snapshots.specs.Snapshots.{without_earlier};
-ghost use Rattle.state_snapshots.specs.Names.{IsWritable};
+ghost use Rattle.state_snapshots.specs.Names.{IsEncodableName};
 
 /// A law: the start of a snapshot and the part of a document are read back, if the numbers have 64
 /// bits and the names are texts that a block takes.
 pub fn parts_are_read_back()
     ensures start { (start : TheStart) → start.count < 2 ^ 64 → start.next < 2 ^ 64
         → start_of_bytes (start_part start) ≡ Some start }
-    ensures document { (part : ThePart) → part.tag < 2 ^ 64 → IsWritable part.id
+    ensures document { (part : ThePart) → part.tag < 2 ^ 64 → IsEncodableName part.id
         → document_of (document_part part) ≡ Some part }
 {}
 
@@ -23,7 +23,7 @@ pub fn parts_are_read_back()
 /// of no other.
 pub fn snapshots_keep_states()
     ensures kept { (root : List ℕ) (m : State) → IsValidState m → m.next < 2 ^ 64
-        → AllByRecursion (λ d. IsWritable d.id) m.documents
+        → AllByRecursion (λ d. IsEncodableName d.id) m.documents
         → AreOfState root (snapshot_parts root m) (without_earlier m) }
     ensures one_state { (root : List ℕ) (parts : List (List ℕ)) (m n : State)
         → AreOfState root parts m → AreOfState root parts n → m ≡ n }

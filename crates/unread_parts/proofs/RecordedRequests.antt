@@ -7,7 +7,7 @@ use Rattle.request_checks.specs.Methods.{is_reading, method_of}
 use Rattle.request_checks.specs.declared.method.Method.{Method}
 use Rattle.request_checks.specs.declared.method.Method.TheVariants.{Get, Head, Put, Delete, Other}
 use Rattle.change_records.specs.ReadFields.{kept_fields}
-use Rattle.change_records.specs.Records.{recorded}
+use Rattle.change_records.specs.Records.{kept_request}
 use Rattle.change_records.specs.declared.read_fields.ReadField.TheVariants.{User, IfMatch, IfNoneMatch, ContentType, ContentEncoding}
 use Rattle.change_records.proofs.KeptFields.{same_values}
 use Rattle.store_core.specs.Contents.{StoreContents}
@@ -39,9 +39,9 @@ changes_by method closes c a made makes (stays reply tells same is) = let no : �
 changes_by method closes c a made makes (changes reply tells same id change note next asks did is) = tells_none method reply.status tells
 
 pub recorded_changes : (root : List ℕ) (c : StoreContents) (request : Request) (reply : SentReply) (made : MadeChange) → IsAnswer root c request (record { reply = reply; made = Some made })
-    → (again : SentReply) × IsAnswer root c (recorded request) (record { reply = again; made = Some made })
+    → (again : SentReply) × IsAnswer root c (kept_request request) (record { reply = again; made = Some made })
 recorded_changes root c request reply made is =
     let answer : Answer = record { reply = reply; made = Some made } in
     let reads = changes_by (method_of request.method) request.closes c answer made refl (way_of root c request answer is) in
     let other = makes_too made request false (kept_fields request.fields) (kept_alike request.fields) answer refl root c reads is in
-    (other.0.reply, subst (λ (o : Option MadeChange). IsAnswer root c (recorded request) (record { reply = other.0.reply; made = o })) other.2 other.1)
+    (other.0.reply, subst (λ (o : Option MadeChange). IsAnswer root c (kept_request request) (record { reply = other.0.reply; made = o })) other.2 other.1)

@@ -7,5 +7,6 @@ pub mod Real
 pub mod SampleRuns
 pub mod SampleSteps
 pub mod ServeEndings
+pub mod StandardServings
 pub mod StatusSteps
 pub mod Streams

@@ -11,6 +11,7 @@ pub mod RunStates
 pub mod SampleCommand
 pub mod SampleRequests
 pub mod ServeCommand
+pub mod StandardServing
 pub mod StatusRecorders
 pub mod StreamFrames
 pub mod SystemRuns

@@ -5,3 +5,5 @@ pub mod JournalOutputs
 pub mod KnownPorts
 pub mod MessageBytes
 pub mod RecorderSteps
+pub mod ServingEnds
+pub mod StandardAddresses

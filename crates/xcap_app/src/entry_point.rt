@@ -1,9 +1,11 @@
 // The entry point.
-ghost use Rattle.std.specs.Prelude.{◌≡◌, None, Some, map, string_bytes};
+ghost use Rattle.std.specs.Prelude.{◌≡◌, ℕ, List, None, Some, map, string_bytes};
 ghost use Rattle.xcap_app.specs.Commands.{parse_command};
 ghost use Rattle.xcap_app.specs.Exits.{status_of, words_of};
-ghost use Rattle.xcap_app.specs.CommandRuns.{RunsCommand};
+ghost use Rattle.xcap_app.specs.CommandRuns.{RunsCommand, service_arguments};
 ghost use Rattle.xcap_app.specs.ErrorMessages.{WritesMessage};
+ghost use Rattle.xcap_app.specs.StandardServing.{ServesByStandards};
+ghost use Rattle.xcap_app.specs.declared.command.Command.TheVariants.{Serve};
 ghost use Rattle.xcap_app.specs.declared.exit.Exit.{Exit};
 
 use crate::arguments::parse_command;
@@ -15,7 +17,7 @@ use crate::keep::keep;
 use crate::messages::report_exit;
 use crate::replay::replay;
 use crate::sample::sample;
-use crate::serve::serve;
+use crate::serve::run_serve;
 use edit_ops::Edit;
 use std::alloc::Global;
 use watchers::Watchers;
@@ -52,7 +54,7 @@ fn execute<P: Port, C: Peer, I: Source, O: Sink, W: Watchers<Edit>>(
             address,
             root,
             count,
-        } => serve(
+        } => run_serve(
             alloc,
             address.as_str(),
             root,
@@ -134,7 +136,8 @@ fn execute_words<P: Port, C: Peer, I: Source, O: Sink, W: Watchers<Edit>>(
 /// program's name, and returns the status to exit with. What each command did, by how it ended, is
 /// defined by `RunsCommand`; each status has its message on `errors`, and where `errors` fails,
 /// nothing else changes. For words that spell no command, it returns 2 and writes the usage line,
-/// and then nothing else is read, written, begun, requested or reported.
+/// and then nothing else is read, written, begun, requested or reported. The requests that come to
+/// `serve` are answered as the standards say (`by_standards`).
 pub fn run<P: Port, C: Peer, I: Source, O: Sink, E: Sink, W: Watchers<Edit>>(
     alloc: Global,
     words: &[String],
@@ -162,6 +165,12 @@ pub fn run<P: Port, C: Peer, I: Source, O: Sink, E: Sink, W: Watchers<Edit>>(
           watchers = watchers.new;
         })
         × WritesMessage (words_of exit) (E.state errors.old) (E.state errors.new) }
+    ensures by_standards { (address root : List ℕ) (count : ℕ)
+        → parse_command (map string_bytes words.now) ≡ Some (Serve address root count)
+        → (exit : Exit) × (result ≡ status_of exit)
+        × ServesByStandards W.keeps (service_arguments address root count) exit
+        (record { port = P.state port.old; watchers = watchers.old })
+        (record { port = P.state port.new; watchers = watchers.new }) }
 {
     let exit = execute_words(alloc, words, port, peer, input, output, watchers);
     report_exit(alloc, errors, exit).status()

@@ -12,7 +12,9 @@ use Rattle.xcap_uri.specs.declared.target.Target.{Target}
 use Rattle.xcap_machine.specs.Answers.{Answer, MadeChange, not_allowed_reply, reply_only}
 use Rattle.xcap_machine.specs.StepOutcomes.{ChangesNothing}
 use Rattle.xcap_machine.specs.Machine.{Step, state_after_answer, answer_with_edit, change_from_edit}
-use Rattle.xcap_machine.specs.Requests.{AnswersByMethod, IsAnswer, auid_of, home_of, is_read_only, allows_method}
+use Rattle.xcap_machine.specs.Requests.{IsAnswer}
+use Rattle.xcap_machine.specs.inner.AnswerCases.{AnswersByMethod}
+use Rattle.xcap_machine.specs.StandardRequests.{auid_of, home_of, is_read_only, allows_method}
 use Rattle.xcap_machine.specs.inner.RecordValues.{server_state}
 use Rattle.xcap_machine.proofs.AcceptedRequests.{by_target}
 use Rattle.xcap_laws.specs.HomeAccess.{IsForbiddenRequest, forbidden_reply}

@@ -82,7 +82,7 @@ module _ (u : Usage) (t : Tree) (selector : Selector) (made : Change) where
         selects = found.selects;
         element = found.element;
         there = found.there;
-        named = record { attr = plan.attr; that = plan.that; has_name = refl };
+        named = record { attr = plan.attr; found = plan.that; has_name = refl };
       })
   deleted_at found ends.Namespaces ends_so plan = absurd plan
 

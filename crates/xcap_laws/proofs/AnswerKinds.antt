@@ -59,7 +59,9 @@ use Rattle.xcap_machine.specs.Feeds.{changes_since_answer, sends_notice}
 use Rattle.xcap_machine.specs.FlatLists.{flat_answer}
 use Rattle.xcap_machine.specs.NodeWrites.{RemovesNode, PutsAtEditTarget, PutsFragment, PutsByEditTarget, node_delete_reply, node_exists, plan_answer, value_conflict}
 use Rattle.xcap_machine.specs.ReadRequests.{SendsDocument, AnswersWithFound, SendsNode}
-use Rattle.xcap_machine.specs.Requests.{AnswersByMethod, AnswersByTarget, AnswersByUser, DeletesTarget, IsAnswer, PutsTarget, ReadsTarget as Reads, auid_of, fault_status, home_of, is_read_only, allows_method}
+use Rattle.xcap_machine.specs.Requests.{AnswersByTarget, IsAnswer, fault_status}
+use Rattle.xcap_machine.specs.inner.AnswerCases.{AnswersByMethod, AnswersByUser, ReadsTarget as Reads}
+use Rattle.xcap_machine.specs.StandardRequests.{DeletesTarget, PutsTarget, auid_of, home_of, is_read_only, allows_method}
 use Rattle.xcap_machine.specs.Resources.{IsResourceOf, Resource, absent, beyond_limit, there, version_of}
 use Rattle.xcap_machine.specs.inner.AnswerCases.{AnswersUnlessStopped, DeletesDocumentIfStored, DeletesNodeIfStored, IsAnswerByTarget, PutsElementText, PutsNodeIfStored, PutsParsedText, PutsValueText, judgement_answer, version_tag as tag_of}
 use Rattle.xcap_machine.specs.inner.RecordValues.{element_query, feed_query, read_request, representation, server_state, node_write}

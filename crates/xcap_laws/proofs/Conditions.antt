@@ -50,7 +50,7 @@ use Rattle.xcap_machine.specs.DocumentWrites.{PutsBody, PutsDocument, change_ans
 use Rattle.xcap_machine.specs.StepOutcomes.{reports_change}
 use Rattle.xcap_machine.specs.Machine.{ContentStep, answer_with_edit, change_from_edit}
 use Rattle.xcap_machine.specs.NodeWrites.{RemovesNode, PutsFragment, PutsByEditTarget, node_delete_reply, node_exists}
-use Rattle.xcap_machine.specs.Requests.{DeletesTarget, PutsTarget}
+use Rattle.xcap_machine.specs.StandardRequests.{DeletesTarget, PutsTarget}
 use Rattle.xcap_machine.specs.Resources.{version_of}
 use Rattle.xcap_machine.specs.inner.AnswerCases.{AnswersUnlessStopped, DeletesDocumentIfStored, DeletesNodeIfStored, PutsNodeIfStored, version_tag as tag_of}
 use Rattle.xcap_machine.specs.inner.RecordValues.{representation, server_state, node_write}

@@ -18,7 +18,9 @@ use Rattle.xcap_uri.specs.declared.target.Target.TheVariants.{Feed}
 use Rattle.xcap_uri.proofs.TargetAnswers.{one_target}
 use Rattle.xcap_machine.specs.Answers.{Answer, reply_only}
 use Rattle.xcap_machine.specs.Feeds.{changes_since_answer}
-use Rattle.xcap_machine.specs.Requests.{AnswersByMethod, AnswersByTarget, IsAnswer, auid_of, home_of}
+use Rattle.xcap_machine.specs.Requests.{AnswersByTarget, IsAnswer}
+use Rattle.xcap_machine.specs.inner.AnswerCases.{AnswersByMethod}
+use Rattle.xcap_machine.specs.StandardRequests.{auid_of, home_of}
 use Rattle.xcap_machine.specs.inner.AnswerCases.{IsAnswerByTarget}
 use Rattle.xcap_machine.specs.inner.RecordValues.{feed_query, read_request, server_state}
 use Rattle.xcap_machine.proofs.Cases.{either}

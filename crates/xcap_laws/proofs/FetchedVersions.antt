@@ -36,7 +36,9 @@ use Rattle.xcap_uri.specs.declared.target.Target.TheVariants.{Document as a_docu
 use Rattle.xcap_uri.proofs.TargetAnswers.{one_target}
 use Rattle.xcap_machine.specs.Answers.{Answer, found_reply, reply_only}
 use Rattle.xcap_machine.specs.ReadRequests.{SendsDocument}
-use Rattle.xcap_machine.specs.Requests.{AnswersByMethod, AnswersByTarget, IsAnswer, auid_of, home_of}
+use Rattle.xcap_machine.specs.Requests.{AnswersByTarget, IsAnswer}
+use Rattle.xcap_machine.specs.inner.AnswerCases.{AnswersByMethod}
+use Rattle.xcap_machine.specs.StandardRequests.{auid_of, home_of}
 use Rattle.xcap_machine.specs.Resources.{IsResourceInHome, Resource, absent, there}
 use Rattle.xcap_machine.specs.inner.AnswerCases.{AnswersUnlessStopped, IsAnswerByTarget}
 use Rattle.xcap_machine.specs.inner.RecordValues.{read_request, server_state}

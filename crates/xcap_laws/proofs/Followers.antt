@@ -60,7 +60,9 @@ use Rattle.client_follower.specs.declared.feed_rounds.Round.{Round}
 use Rattle.xcap_machine.specs.Answers.{Answer, found_reply, reply_only}
 use Rattle.xcap_machine.specs.Feeds.{changes_since_answer}
 use Rattle.xcap_machine.specs.ReadRequests.{SendsDocument}
-use Rattle.xcap_machine.specs.Requests.{AnswersByMethod, AnswersByTarget, IsAnswer, auid_of, home_of}
+use Rattle.xcap_machine.specs.Requests.{AnswersByTarget, IsAnswer}
+use Rattle.xcap_machine.specs.inner.AnswerCases.{AnswersByMethod}
+use Rattle.xcap_machine.specs.StandardRequests.{auid_of, home_of}
 use Rattle.xcap_machine.specs.Resources.{IsResourceInHome, Resource, absent, there}
 use Rattle.xcap_machine.specs.SubscriberReplicas.{patch_answer_between, replica_of_version}
 use Rattle.xcap_uri.specs.Roots.{IsRoot, authority_of, path_of}

@@ -25,7 +25,9 @@ use Rattle.xcap_machine.specs.ElementFeeds.{AnswersElementQuery}
 use Rattle.xcap_machine.specs.Feeds.{changes_since_answer}
 use Rattle.xcap_machine.specs.FlatLists.{flat_answer}
 use Rattle.xcap_machine.specs.ReadRequests.{SendsDocument, AnswersWithFound, SendsNode}
-use Rattle.xcap_machine.specs.Requests.{AnswersByMethod, AnswersByTarget, AnswersByUser, IsAnswer, ReadsTarget, auid_of, fault_status, home_of}
+use Rattle.xcap_machine.specs.Requests.{AnswersByTarget, IsAnswer, fault_status}
+use Rattle.xcap_machine.specs.inner.AnswerCases.{AnswersByMethod, AnswersByUser, ReadsTarget}
+use Rattle.xcap_machine.specs.StandardRequests.{auid_of, home_of}
 use Rattle.xcap_machine.specs.Resources.{Resource, absent, beyond_limit, there}
 use Rattle.xcap_machine.specs.inner.AnswerCases.{AnswersUnlessStopped, IsAnswerByTarget}
 use Rattle.xcap_machine.specs.inner.RecordValues.{element_query, feed_query, read_request, representation, server_state}

@@ -41,7 +41,9 @@ use Rattle.xcap_uri.specs.declared.target.Target.TheVariants.{Document, Node, De
 use Rattle.xcap_machine.specs.Answers.{Answer, not_allowed_reply, reply_only}
 use Rattle.xcap_machine.specs.ElementFeeds.{AnswersElementQuery}
 use Rattle.xcap_machine.specs.Feeds.{changes_since_answer}
-use Rattle.xcap_machine.specs.Requests.{AnswersByMethod, AnswersByTarget, AnswersByUser, IsAnswer, ReadsTarget, auid_of, home_of, is_read_only, allows_method}
+use Rattle.xcap_machine.specs.Requests.{AnswersByTarget, IsAnswer}
+use Rattle.xcap_machine.specs.inner.AnswerCases.{AnswersByMethod, AnswersByUser, ReadsTarget}
+use Rattle.xcap_machine.specs.StandardRequests.{auid_of, home_of, is_read_only, allows_method}
 use Rattle.xcap_machine.specs.Resources.{IsResourceInHome, IsGlobalResource, Resource, absent, beyond_limit, there}
 use Rattle.xcap_machine.specs.inner.AnswerCases.{IsAnswerByTarget}
 use Rattle.xcap_machine.specs.inner.RecordValues.{element_query, feed_query, read_request, server_state}

@@ -33,7 +33,8 @@ use Rattle.xcap_machine.specs.DocumentWrites.{delete_reply, put_change, put_repl
 use Rattle.xcap_machine.specs.StepOutcomes.{reports_change}
 use Rattle.xcap_machine.specs.Machine.{ContentStep, Step, answer_with_edit, change_from_edit}
 use Rattle.xcap_machine.specs.NodeWrites.{node_delete_reply, node_exists}
-use Rattle.xcap_machine.specs.Requests.{DeletesTarget, IsAnswer, PutsTarget, auid_of, home_of}
+use Rattle.xcap_machine.specs.Requests.{IsAnswer}
+use Rattle.xcap_machine.specs.StandardRequests.{DeletesTarget, PutsTarget, auid_of, home_of}
 use Rattle.xcap_machine.specs.Resources.{version_of}
 use Rattle.xcap_machine.specs.inner.AnswerCases.{IsAnswerByTarget}
 use Rattle.xcap_machine.specs.inner.RecordValues.{server_state}

@@ -31,7 +31,9 @@ use Rattle.xcap_uri.specs.declared.target.Target.TheVariants.{ElementFeed}
 use Rattle.xcap_uri.proofs.TargetAnswers.{one_target}
 use Rattle.xcap_machine.specs.Answers.{Answer, reply_only}
 use Rattle.xcap_machine.specs.ElementFeeds.{ElementQuery, AnswersElementQuery}
-use Rattle.xcap_machine.specs.Requests.{AnswersByMethod, AnswersByTarget, auid_of, home_of}
+use Rattle.xcap_machine.specs.Requests.{AnswersByTarget}
+use Rattle.xcap_machine.specs.inner.AnswerCases.{AnswersByMethod}
+use Rattle.xcap_machine.specs.StandardRequests.{auid_of, home_of}
 use Rattle.xcap_machine.specs.inner.AnswerCases.{IsAnswerByTarget}
 use Rattle.xcap_machine.specs.inner.RecordValues.{read_request, server_state}
 use Rattle.xcap_machine.proofs.Cases.{either}

@@ -14,6 +14,7 @@ use Rattle.edit_ops.specs.declared.change.Change.TheVariants.{CreateDocument, In
 use Rattle.edit_ops.specs.declared.change.Change.TheVariants.{Remove, SetAttr, DropAttr}
 use Rattle.edit_ops.specs.declared.change.Change.TheVariants.{RemoveDocument}
 use Rattle.edit_rules.specs.AttributePuts.{written_name}
+use Rattle.edit_rules.specs.EditContexts.{AttrPlace}
 use Rattle.edit_rules.specs.Spots.{SelectNothing, SelectsParent}
 use Rattle.xcap_uri.specs.declared.target.Target.{Target}
 use Rattle.xcap_uri.specs.declared.target.Target.TheVariants.{Document, Node}
@@ -24,27 +25,28 @@ IsTargetIn doc (Document id) = id ≡ doc
 IsTargetIn doc (Node id selector) = id ≡ doc
 IsTargetIn doc _ = ⊥
 
--- the selector ends in an attribute of the element at p, which is written or removed by this name
+-- the selector ends in an attribute of the element at p, of whose place and element this holds
 pub record IsAttributeAt (t : Tree) (selector : Selector) (p : List ℕ)
-    (IsNamed : Tree → List ℕ → List ℕ → Type 0) : Type 0 where
+    (IsNamed : AttrPlace → Tree → Type 0) : Type 0 where
   pub uri : List ℕ
   pub local : List ℕ
   pub ends_in : selector.end ≡ ends.Attribute uri local
   pub selects : SelectsPath selector.steps t p
   pub element : Tree
   pub there : at p t ≡ Some element
-  pub named : IsNamed element uri local
+  pub named : IsNamed (record { path = p; uri = uri; local = local }) element
 
--- the attribute of this namespace and local name is written by this name
-abbrev pub IsWrittenAs : Tree → List ℕ → Name → Tree → List ℕ → List ℕ → Type 0
-IsWrittenAs t p name element uri local =
-    written_name (scope_at p t) uri local element.attrs ≡ Some name
+-- the attribute at this place is written by this name
+abbrev pub IsWrittenAs : Tree → Name → AttrPlace → Tree → Type 0
+IsWrittenAs t name place element =
+    written_name (scope_at place.path t) place.uri place.local element.attrs ≡ Some name
 
--- the attribute of this namespace and local name has this name
-pub record HasAttribute (t : Tree) (p : List ℕ) (name : Name) (element : Tree)
-    (uri local : List ℕ) : Type 0 where
+-- the attribute at this place is there, and has this name
+pub record HasAttribute (t : Tree) (name : Name) (place : AttrPlace) (element : Tree)
+    : Type 0 where
   pub attr : Attr
-  pub that : find (is_attr_named (scope_at p t) uri local) element.attrs ≡ Some attr
+  pub found : find (is_attr_named (scope_at place.path t) place.uri place.local) element.attrs
+      ≡ Some attr
   pub has_name : name ≡ attr.name
 
 -- the change is made where the selector leads: a new element under the parent that all steps but
@@ -60,8 +62,8 @@ IsChangeAtNode t selector (Replace p element) =
 IsChangeAtNode t selector (Remove p) =
     (selector.end ≡ ends.Element) × SelectsPath selector.steps t p
 IsChangeAtNode t selector (SetAttr p name value) =
-    IsAttributeAt t selector p (IsWrittenAs t p name)
-IsChangeAtNode t selector (DropAttr p name) = IsAttributeAt t selector p (HasAttribute t p name)
+    IsAttributeAt t selector p (IsWrittenAs t name)
+IsChangeAtNode t selector (DropAttr p name) = IsAttributeAt t selector p (HasAttribute t name)
 IsChangeAtNode t selector RemoveDocument = ⊥
 
 -- the change is of the whole document

@@ -17,7 +17,7 @@ use Rattle.store_core.specs.DocumentChanges.{stored_id}
 use Rattle.xcap_uri.specs.Targets.{IsTargetResult}
 use Rattle.xcap_uri.specs.declared.target.Target.{Target}
 use Rattle.xcap_machine.specs.Answers.{not_allowed_reply}
-use Rattle.xcap_machine.specs.Requests.{auid_of, home_of, is_read_only, allows_method}
+use Rattle.xcap_machine.specs.StandardRequests.{auid_of, home_of, is_read_only, allows_method}
 use Rattle.xcap_machine.specs.Resources.{IsIndexOfServices}
 
 -- ---- requests that aren't allowed

@@ -13,7 +13,8 @@ ghost use Rattle.xcap_uri.specs.declared.target.Target.{Target};
 ghost use Rattle.xcap_machine.specs.Answers.{Answer, reply_only};
 ghost use Rattle.xcap_machine.specs.StepOutcomes.{ChangesNothing};
 ghost use Rattle.xcap_machine.specs.Machine.{ContentStep, Step};
-ghost use Rattle.xcap_machine.specs.Requests.{IsAnswer, home_of};
+ghost use Rattle.xcap_machine.specs.Requests.{IsAnswer};
+ghost use Rattle.xcap_machine.specs.StandardRequests.{home_of};
 ghost use Rattle.xcap_laws.specs.HomeAccess.{AgreesUnderHome, ChangesOwnHome, IsFromNoOtherUser};
 ghost use Rattle.xcap_laws.specs.HomeAccess.{AgreesOnGlobal, IsForbiddenRequest, forbidden_reply};
 

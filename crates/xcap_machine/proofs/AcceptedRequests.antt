@@ -3,6 +3,8 @@ use Rattle.std.proofs.Common.{◌≡◌, ℕ, Bool, true, false, not, List, [], 
 use Rattle.std.specs.Bool.{MatchBool}
 use Rattle.xml_tree.specs.Tree.{Tree}
 use Rattle.tree_text.specs.Faults.{IsBodyResult, IsTextResult}
+use Rattle.tree_text.specs.Spellings.{ReadsTree}
+use Rattle.tree_text.proofs.SpellingLemmas.{spelled_answer, spelled_body}
 use Rattle.tree_text.specs.declared.fault.TextFault.{TextFault}
 use Rattle.usage_docs.specs.Validation.{HasFirstFault}
 use Rattle.usage_docs.specs.declared.validation.Fault.{Fault}
@@ -43,7 +45,9 @@ use Rattle.store_core.specs.declared.refusal.StoreRefusal.{StoreRefusal}
 use Rattle.xcap_machine.specs.Answers.{Answer, AppliesConditions, MadeChange, not_allowed_reply, reply_only}
 use Rattle.xcap_machine.specs.NodeWrites.{RemovesNode, PutsAtEditTarget, PutsElement, PutsFragment, PutsByEditTarget, PutsValue, node_delete_reply, node_exists, max_height_at, plan_answer, planned_put_answer, edit_target_scope}
 use Rattle.xcap_machine.specs.Machine.{ContentStep, answer_with_edit, change_from_edit}
-use Rattle.xcap_machine.specs.Requests.{AnswersByMethod, AnswersByTarget, AnswersByUser, DeletesTarget, IsAnswer, PutsTarget, auid_of, home_of, is_read_only, allows_method}
+use Rattle.xcap_machine.specs.Requests.{AnswersByTarget, IsAnswer}
+use Rattle.xcap_machine.specs.inner.AnswerCases.{AnswersByMethod, AnswersByUser}
+use Rattle.xcap_machine.specs.StandardRequests.{DeletesTarget, PutsTarget, auid_of, home_of, is_read_only, allows_method}
 use Rattle.xcap_machine.specs.Resources.{version_of}
 use Rattle.xcap_machine.specs.DocumentWrites.{WritesIfStored, PutsDocument, PutsParsedBody, change_answer, delete_reply, put_answer, put_reply}
 use Rattle.xcap_machine.specs.inner.AnswerCases.{DeletesDocumentIfStored, DeletesNodeIfStored, PutsNodeIfStored, IsAnswerByTarget, PutsParsedText, judgement_answer, version_tag as tag_of, AnswersUnlessStopped}
@@ -191,9 +195,9 @@ document_put c id usage request a made is h =
     by_fault typed t read None judged answers = record { typed = typed; tree = t; spelled = read; judged = judged; answers = answers }
     by_fault typed t read (Some fault) judged answers = absurd (stopped_never a _ made is answers)
 
-    by : has_media_type (document_media_type id.auid) request.fields ≡ true → (read : Result Tree TextFault) → IsTextResult 64 [] request.body read → PutsParsedText usage read request.closes (put_answer c id request.closes) a → DocumentPut c id usage request a
+    by : has_media_type (document_media_type id.auid) request.fields ≡ true → (read : Result Tree TextFault) → ReadsTree 64 [] request.body read → PutsParsedText usage read request.closes (put_answer c id request.closes) a → DocumentPut c id usage request a
     by typed (Err fault) read h = absurd (stopped_never a _ made is h)
-    by typed (Ok t) read h = by_fault typed t read h.0 h.1 h.2
+    by typed (Ok t) read h = by_fault typed t (spelled_answer 64 [] request.body t read) h.0 h.1 h.2
 
 -- ---- PUT of nodes
 
@@ -226,7 +230,7 @@ module _ (c : Content) (id : DocId) (usage : Usage) (selector : Selector) (t : T
 
   element_put : (spot : Spot) → selector.end ≡ ends.Element → IsSpotOf t selector spot → PutsElement c (node_write id usage selector request) t spot a → NodePut c id usage selector t request a
   element_put spot ends_so place (Err fault, read, answer) = absurd (stopped_never a _ made is answer)
-  element_put spot ends_so place (Ok e, read, answer) = element_planned spot ends_so place e read answer.0 answer.1 answer.2
+  element_put spot ends_so place (Ok e, read, answer) = element_planned spot ends_so place e (spelled_answer (max_height_at spot) (edit_target_scope t spot) request.body e read) answer.0 answer.1 answer.2
 
   value_planned : (p uri local value : List ℕ) → selector.end ≡ ends.Attribute uri local → IsSpotOf t selector (Value p) → IsBodyResult request.body (Ok value)
       → (plan : Result Change EditRefusal) → IsAttrPlan (record { usage = usage; document = t; steps = selector.steps }) selector.end p value plan → Planned plan → NodePut c id usage selector t request a
@@ -235,7 +239,7 @@ module _ (c : Content) (id : DocId) (usage : Usage) (selector : Selector) (t : T
 
   value_put : (p : List ℕ) → IsSpotOf t selector (Value p) → PutsValue c (node_write id usage selector request) t p a → NodePut c id usage selector t request a
   value_put p place (Err fault, read, answer) = absurd (stopped_never a _ made is answer)
-  value_put p place (Ok value, read, answer) = value_planned p place.0.0 place.0.1.0 value place.0.1.1 place read answer.0 answer.1 answer.2
+  value_put p place (Ok value, read, answer) = value_planned p place.0.0 place.0.1.0 value place.0.1.1 place (spelled_body request.body value read) answer.0 answer.1 answer.2
 
   put_at : (spot : Spot) → IsSpotOf t selector spot → PutsAtEditTarget c (node_write id usage selector request) t spot a → NodePut c id usage selector t request a
   put_at (Over p) place h = element_put (Over p) place.0 place h

@@ -15,7 +15,7 @@ use Rattle.xcap_uri.specs.declared.shape.Shape.{Shape}
 use Rattle.xcap_uri.specs.declared.shape.Shape.TheVariants as shapes
 use Rattle.xcap_uri.specs.declared.target.Target.{Target}
 use Rattle.xcap_uri.specs.declared.target.Target.TheVariants.{Document, Node, Deep, Feed, ElementFeed, Flat}
-use Rattle.xcap_machine.specs.Requests.{IsWritableTarget}
+use Rattle.xcap_machine.specs.StandardRequests.{IsWritableTarget}
 
 abbrev Answer : Type 0
 Answer = Result Target UriFault

@@ -35,7 +35,8 @@ use Rattle.xcap_machine.specs.Answers.{Answer, MadeChange}
 use Rattle.xcap_machine.specs.WriteEffects.{DeleteTargetIsGone, DocumentExists, ElementExists, IsUnconditional, PreservesTrees, NodeIsGone, NodeExists, PutTargetExists, RepeatedPutPreservesTrees, TargetIsGone, TargetExists, ValueExists}
 use Rattle.xcap_machine.specs.NodeWrites.{node_delete_reply, node_exists, max_height_at, edit_target_scope}
 use Rattle.xcap_machine.specs.Machine.{ContentStep, answer_with_edit, change_from_edit}
-use Rattle.xcap_machine.specs.Requests.{DeletesTarget, IsAnswer, PutsTarget}
+use Rattle.xcap_machine.specs.Requests.{IsAnswer}
+use Rattle.xcap_machine.specs.StandardRequests.{DeletesTarget, PutsTarget}
 use Rattle.xcap_machine.specs.Resources.{version_of}
 use Rattle.xcap_machine.specs.DocumentWrites.{change_answer, delete_reply, put_change, put_reply}
 use Rattle.xcap_machine.specs.inner.AnswerCases.{PutsNodeIfStored, PutsNodeOfVersion}

@@ -39,7 +39,9 @@ use Rattle.xcap_machine.proofs.OneVersion.{found_all, held_there, one_version}
 use Rattle.xcap_machine.proofs.Present.{aggregate, gone, patching, some_version, tags_alone}
 use Rattle.xcap_machine.specs.Answers.{Answer, reply_only}
 use Rattle.xcap_machine.specs.Feeds.{changes_since_answer}
-use Rattle.xcap_machine.specs.Requests.{AnswersByMethod, AnswersByTarget, AnswersByUser, IsAnswer, auid_of, home_of}
+use Rattle.xcap_machine.specs.Requests.{AnswersByTarget, IsAnswer}
+use Rattle.xcap_machine.specs.inner.AnswerCases.{AnswersByMethod, AnswersByUser}
+use Rattle.xcap_machine.specs.StandardRequests.{auid_of, home_of}
 use Rattle.xcap_machine.specs.inner.AnswerCases.{IsAnswerByTarget}
 use Rattle.xcap_machine.proofs.Cases.{either}
 use Rattle.xcap_machine.specs.SubscriberVersions.{UpdatesReplica, UpdatesReplicaFrom, UpdatesReplicaIfStored, UpdatesReplicaBetween, UpdatesSubscriber}

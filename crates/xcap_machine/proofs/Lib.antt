@@ -15,6 +15,7 @@ pub mod Present
 pub mod PutPremises
 pub mod Reasons
 pub mod ResourceLemmas
+pub mod StandardAnswers
 pub mod Steps
 pub mod SubscriberLemmas
 pub mod Twice

@@ -1,15 +1,21 @@
 -- A request has exactly one answer on given store contents.
 use Rattle.std.proofs.Common.{◌≡◌, ℕ, Bool, true, false, not, List, [], is_some, Option, None, Some, Result, Ok, Err, encode_utf8_all, refl, sym, ap, subst, ◌∙◌}
 use Rattle.std.specs.Bool.{MatchBool}
+use Rattle.std.specs.Prelude.{MatchResult}
+use Rattle.xml_names.specs.declared.names.Decl.{Decl}
 use Rattle.xml_tree.specs.Tree.{Tree}
-use Rattle.tree_text.specs.Faults.{IsBodyResult, IsTextResult}
+use Rattle.tree_text.specs.Faults.{IsTextResult}
 use Rattle.xml_tree.specs.Print.{document_print}
 use Rattle.tree_text.specs.readers.WholeTexts.{read_body_text, read_document_text}
 use Rattle.tree_text.proofs.ReadAnswers.{body_answer, text_answer}
-use Rattle.tree_text.proofs.OneAnswer.{one_body as one_value_reading, one_text as one_reading}
+use Rattle.tree_text.specs.Spellings.{ReadsTree, ReadsValue}
+use Rattle.tree_text.proofs.SpellingLemmas.{one_tree_read, one_value_read, reads_tree, reads_value, tells, tells_value}
 use Rattle.tree_text.specs.declared.fault.TextFault.{TextFault}
+use Rattle.tree_text.specs.declared.fault.TextFault.TheVariants as texts
 use Rattle.tree_text.specs.declared.fault.ValueFault.{ValueFault}
+use Rattle.reply_bodies.specs.declared.conflicts.ErrorBody.{ErrorBody}
 use Rattle.usage_docs.specs.Validation.{HasFirstFault}
+use Rattle.usage_docs.specs.declared.validation.Fault.{Fault}
 use Rattle.usage_docs.proofs.Judgements.{judged_one, judgement}
 use Rattle.doc_names.specs.DocIds.{id_text}
 use Rattle.doc_names.specs.Usages.{usage_of}
@@ -55,7 +61,9 @@ use Rattle.store_core.specs.Since.{ChangesSince, Gone, Unknown, ReportedChanges,
 use Rattle.store_core.specs.Contents.{StoreContents as Content}
 use Rattle.list_resolve.proofs.OneList.{one_list, some_list}
 use Rattle.xcap_machine.specs.Answers.{Answer, AppliesConditions, error_reply, found_reply, not_allowed_reply, reply_only}
-use Rattle.xcap_machine.specs.Requests.{AnswersByMethod, AnswersByTarget, AnswersByUser, DeletesTarget, IsAnswer, PutsTarget, auid_of, fault_status, home_of, is_namespace_bindings, is_read_only, allows_method, ReadsTarget as Reads}
+use Rattle.xcap_machine.specs.Requests.{AnswersByTarget, IsAnswer, fault_status}
+use Rattle.xcap_machine.specs.inner.AnswerCases.{AnswersByMethod, AnswersByUser, ReadsTarget as Reads}
+use Rattle.xcap_machine.specs.StandardRequests.{DeletesTarget, PutsTarget, auid_of, home_of, is_namespace_bindings, is_read_only, allows_method}
 use Rattle.xcap_machine.specs.ElementFeeds.{AnswersElementQuery}
 use Rattle.xcap_machine.specs.Feeds.{sends_notice, changes_since_answer}
 use Rattle.xcap_machine.specs.FlatLists.{IsFlatDocument, flat_document_result, flat_answer}
@@ -63,7 +71,7 @@ use Rattle.xcap_machine.specs.ReadRequests.{SendsDocument, AnswersWithFound, Sen
 use Rattle.xcap_machine.specs.Resources.{IsResourceOf, Resource, absent, beyond_limit, there, version_of}
 use Rattle.xcap_machine.specs.NodeWrites.{RemovesNode, PutsAtEditTarget, PutsElement, PutsFragment, PutsByEditTarget, PutsValue, node_delete_reply, node_exists, max_height_at, plan_answer, planned_put_answer, edit_target_scope, value_conflict}
 use Rattle.xcap_machine.specs.DocumentWrites.{WritesIfStored, PutsBody, PutsDocument, PutsParsedBody, change_answer, delete_reply, missing_parent_answer, put_answer, text_conflict}
-use Rattle.xcap_machine.specs.inner.AnswerCases.{DeletesDocumentIfStored, DeletesNodeIfStored, PutsElementText, PutsNodeIfStored, PutsNodeOfVersion, PutsValueText, IsAnswerByTarget, PutsParsedText, judgement_answer, version_tag as tag_of, AnswersUnlessStopped}
+use Rattle.xcap_machine.specs.inner.AnswerCases.{DeletesDocumentIfStored, DeletesNodeIfStored, PutsNodeIfStored, PutsNodeOfVersion, IsAnswerByTarget, judgement_answer, version_tag as tag_of, AnswersUnlessStopped}
 use Rattle.xcap_machine.specs.inner.RecordValues.{element_query, feed_query, read_request, representation, server_state, node_write}
 use Rattle.xcap_machine.proofs.ResourceLemmas.{leads, only_leads, resource}
 
@@ -139,19 +147,93 @@ module _ (method : Method) (request : Request) where
       one_by (IsFlatDocument root c id service) (λ x a. a ≡ flat_answer x (read_request method request)) document (list.0, list.1, refl) (λ x is. is.2 ∙ ap flat_document_result (one_list c root id service is.0 list.0 is.1 list.1))
       (one_equal (flat_answer document (read_request method request)))
 
+-- ---- texts that are read
+
+-- the answer follows from what is read, and all that is read leads to the same one
+one_so : {R : Type 0} (IsFound : R → Type 0) (P : R → Answer → Type 0) (r : R) → IsFound r → ((x : R) (a : Answer) → IsFound x → P x a → P r a) → IsOne (P r) → IsOne (λ a. (x : R) × IsFound x × P x a)
+one_so IsFound P r found_reply moved one = record { answer = one.answer; is = (r, found_reply, one.is); only = λ a h. one.only a (moved h.0 a h.1 h.2) }
+
+-- what follows a tree, and the conflict of a fault
+module _ (malformed : ErrorBody) (closes : Bool) (Then : Tree → Answer → Type 0) where
+  abbrev AfterRead : Result Tree TextFault → Answer → Type 0
+  AfterRead read a = MatchResult read (λ t. Then t a) (λ fault. a ≡ reply_only (error_reply (text_conflict malformed fault) closes))
+
+  abbrev AfterTold : Result Tree ErrorBody → Answer → Type 0
+  AfterTold read a = MatchResult read (λ t. Then t a) (λ body. a ≡ reply_only (error_reply body closes))
+
+  elsewhere : (fault : TextFault) → (fault ≡ texts.NotUtf8 → ⊥) → text_conflict malformed fault ≡ malformed
+  elsewhere texts.NotUtf8 other = absurd (other refl)
+  elsewhere (texts.NotWellFormed place) other = refl
+  elsewhere (texts.Doctype place) other = refl
+  elsewhere (texts.TooDeep place) other = refl
+  elsewhere (texts.Namespace place) other = refl
+  elsewhere (texts.RepeatedAttribute place) other = refl
+
+  module _ (limit : ℕ) (scope : List (List Decl)) (bytes : List ℕ) where
+    abbrev told : Result Tree TextFault → Result Tree ErrorBody
+    told read = tells limit scope bytes (text_conflict malformed) malformed elsewhere read
+
+    forth : (read : Result Tree TextFault) (a : Answer) → AfterRead read a → AfterTold (told read) a
+    forth (Ok t) a h = h
+    forth (Err fault) a h = h
+
+    back : (read : Result Tree TextFault) (a : Answer) → AfterTold (told read) a → AfterRead read a
+    back (Ok t) a h = h
+    back (Err fault) a h = h
+
+    one_after_read : ((t : Tree) → IsTextResult limit scope bytes (Ok t) → IsOne (Then t)) → IsOne (λ a. (read : Result Tree TextFault) × ReadsTree limit scope bytes read × AfterRead read a)
+    one_after_read one =
+        let result = read_document_text limit scope bytes in
+        let answer = text_answer limit scope bytes in
+        one_so (ReadsTree limit scope bytes) AfterRead result (reads_tree limit scope bytes result answer)
+        (λ x a reads h. back result a (subst (λ (r : Result Tree ErrorBody). AfterTold r a) (one_tree_read limit scope bytes (text_conflict malformed) malformed elsewhere x result reads answer) (forth x a h)))
+        (by result answer)
+      where
+        by : (read : Result Tree TextFault) → IsTextResult limit scope bytes read → IsOne (AfterRead read)
+        by (Ok t) answer = one t answer
+        by (Err fault) answer = one_equal (reply_only (error_reply (text_conflict malformed fault) closes))
+
+-- and likewise for a value
+module _ (closes : Bool) (Then : List ℕ → Answer → Type 0) (bytes : List ℕ) where
+  abbrev AfterValue : Result (List ℕ) ValueFault → Answer → Type 0
+  AfterValue read a = MatchResult read (λ value. Then value a) (λ fault. a ≡ reply_only (error_reply (value_conflict fault) closes))
+
+  abbrev AfterToldValue : Result (List ℕ) ErrorBody → Answer → Type 0
+  AfterToldValue read a = MatchResult read (λ value. Then value a) (λ body. a ≡ reply_only (error_reply body closes))
+
+  abbrev told_value : Result (List ℕ) ValueFault → Result (List ℕ) ErrorBody
+  told_value read = tells_value bytes value_conflict conflicts.NotXmlAttValue (λ place. refl) read
+
+  value_forth : (read : Result (List ℕ) ValueFault) (a : Answer) → AfterValue read a → AfterToldValue (told_value read) a
+  value_forth (Ok value) a h = h
+  value_forth (Err fault) a h = h
+
+  value_back : (read : Result (List ℕ) ValueFault) (a : Answer) → AfterToldValue (told_value read) a → AfterValue read a
+  value_back (Ok value) a h = h
+  value_back (Err fault) a h = h
+
+  one_after_value : ((value : List ℕ) → IsOne (Then value)) → IsOne (λ a. (read : Result (List ℕ) ValueFault) × ReadsValue bytes read × AfterValue read a)
+  one_after_value one =
+      let result = read_body_text bytes in
+      let answer = body_answer bytes in
+      one_so (ReadsValue bytes) AfterValue result (reads_value bytes result answer)
+      (λ x a reads h. value_back result a (subst (λ (r : Result (List ℕ) ErrorBody). AfterToldValue r a) (one_value_read bytes value_conflict conflicts.NotXmlAttValue (λ place. refl) x result reads answer) (value_forth x a h)))
+      (by result)
+    where
+      by : (read : Result (List ℕ) ValueFault) → IsOne (AfterValue read)
+      by (Ok value) = one value
+      by (Err fault) = one_equal (reply_only (error_reply (value_conflict fault) closes))
+
 -- ---- PUT of documents
 
-one_text : (usage : Usage) (closes : Bool) (answer : Tree → Answer) (read : Result Tree TextFault) → IsOne (λ a. PutsParsedText usage read closes answer a)
-one_text usage closes answer (Err fault) = one_equal (reply_only (error_reply (text_conflict conflicts.NotWellFormed fault) closes))
-one_text usage closes answer (Ok t) =
+one_judged : (usage : Usage) (closes : Bool) (answer : Tree → Answer) (t : Tree) → IsOne (λ a. (judgement : Option Fault) × HasFirstFault usage t judgement × (a ≡ judgement_answer judgement closes (answer t)))
+one_judged usage closes answer t =
     let found_reply = judgement usage t in
     one_by (HasFirstFault usage t) (λ j a. a ≡ judgement_answer j closes (answer t)) found_reply.0 found_reply.1 (λ j is. judged_one usage t j found_reply.0 is found_reply.1) (one_equal (judgement_answer found_reply.0 closes (answer t)))
 
 one_spelled : (usage : Usage) (request : Request) (answer : Tree → Answer) → IsOne (λ a. PutsParsedBody usage request answer a)
 one_spelled usage request answer =
-    let read = read_document_text 64 [] request.body in
-    let spelled = text_answer 64 [] request.body in
-    one_by (IsTextResult 64 [] request.body) (λ r a. PutsParsedText usage r request.closes answer a) read spelled (λ r is. one_reading 64 [] request.body r read is spelled) (one_text usage request.closes answer read)
+    one_after_read conflicts.NotWellFormed request.closes (λ t a. (judgement : Option Fault) × HasFirstFault usage t judgement × (a ≡ judgement_answer judgement request.closes (answer t))) 64 [] request.body (λ t _. one_judged usage request.closes answer t)
 
 one_body : (usage : Usage) (media : MediaType) (request : Request) (answer : Tree → Answer) → IsOne (λ a. PutsBody usage media request answer a)
 one_body usage media request answer =
@@ -167,34 +249,31 @@ module _ (c : Content) (id : DocId) (request : Request) where
   -- ---- PUT of nodes
 
   module _ (usage : Usage) (selector : Selector) (t : Tree) where
-    one_element_text : (spot : Spot) → selector.end ≡ ends.Element → IsSpotOf t selector spot → (read : Result Tree TextFault) → IsOne (λ a. PutsElementText c (node_write id usage selector request) t spot read a)
-    one_element_text spot ends_so is (Err fault) = one_equal (reply_only (error_reply (text_conflict conflicts.NotXmlFrag fault) request.closes))
-    one_element_text spot ends_so is (Ok e) =
+    abbrev ElementPlanned : Spot → Tree → Answer → Type 0
+    ElementPlanned spot e a = (plan : Result Change EditRefusal) × IsPutPlan (record { usage = usage; document = t; steps = selector.steps }) spot e plan × (a ≡ planned_put_answer c (node_write id usage selector request) t plan)
+
+    one_element_planned : (spot : Spot) → selector.end ≡ ends.Element → IsSpotOf t selector spot → (e : Tree) → IsOne (ElementPlanned spot e)
+    one_element_planned spot ends_so is e =
         let plan = some_put usage t selector spot e ends_so is in
         one_by (IsPutPlan (record { usage = usage; document = t; steps = selector.steps }) spot e) (λ p a. a ≡ planned_put_answer c (node_write id usage selector request) t p) plan.0 plan.1
         (λ p h. plans.one_put usage t selector.steps spot e p plan.0 h plan.1) (one_equal (planned_put_answer c (node_write id usage selector request) t plan.0))
 
     one_element : (spot : Spot) → selector.end ≡ ends.Element → IsSpotOf t selector spot → IsOne (λ a. PutsElement c (node_write id usage selector request) t spot a)
     one_element spot ends_so is =
-        let levels = max_height_at spot in
-        let scope = edit_target_scope t spot in
-        let read = read_document_text levels scope request.body in
-        let spelled = text_answer levels scope request.body in
-        one_by (IsTextResult levels scope request.body) (λ r a. PutsElementText c (node_write id usage selector request) t spot r a) read spelled
-        (λ r h. one_reading levels scope request.body r read h spelled) (one_element_text spot ends_so is read)
+        one_after_read conflicts.NotXmlFrag request.closes (ElementPlanned spot) (max_height_at spot) (edit_target_scope t spot) request.body (λ e _. one_element_planned spot ends_so is e)
 
-    one_value_text : (p : List ℕ) → IsSpotOf t selector (Value p) → (read : Result (List ℕ) ValueFault) → IsOne (λ a. PutsValueText c (node_write id usage selector request) t p read a)
-    one_value_text p is (Err fault) = one_equal (reply_only (error_reply (value_conflict fault) request.closes))
-    one_value_text p is (Ok value) =
+    abbrev ValuePlanned : List ℕ → List ℕ → Answer → Type 0
+    ValuePlanned p value a = (plan : Result Change EditRefusal) × IsAttrPlan (record { usage = usage; document = t; steps = selector.steps }) selector.end p value plan × (a ≡ planned_put_answer c (node_write id usage selector request) t plan)
+
+    one_value_planned : (p : List ℕ) → IsSpotOf t selector (Value p) → (value : List ℕ) → IsOne (ValuePlanned p value)
+    one_value_planned p is value =
         let plan = some_attr usage t selector p value is in
         one_by (IsAttrPlan (record { usage = usage; document = t; steps = selector.steps }) selector.end p value) (λ x a. a ≡ planned_put_answer c (node_write id usage selector request) t x) plan.0 plan.1
         (λ x h. plans.one_attr usage t selector.steps selector.end p value x plan.0 h plan.1) (one_equal (planned_put_answer c (node_write id usage selector request) t plan.0))
 
     one_value : (p : List ℕ) → IsSpotOf t selector (Value p) → IsOne (λ a. PutsValue c (node_write id usage selector request) t p a)
     one_value p is =
-        let read = read_body_text request.body in
-        let spelled = body_answer request.body in
-        one_by (IsBodyResult request.body) (λ r a. PutsValueText c (node_write id usage selector request) t p r a) read spelled (λ r h. one_value_reading request.body r read h spelled) (one_value_text p is read)
+        one_after_value request.closes (ValuePlanned p) request.body (one_value_planned p is)
 
     one_at : (spot : Spot) → IsSpotOf t selector spot → IsOne (λ a. PutsAtEditTarget c (node_write id usage selector request) t spot a)
     one_at (Over p) is = one_element (Over p) is.0 is
@@ -296,3 +375,6 @@ some_answer root c request = let one = exactly_one root c request in (one.answer
 
 pub one_answer : (root : List ℕ) (c : Content) (request : Request) (a b : Answer) → IsAnswer root c request a → IsAnswer root c request b → a ≡ b
 one_answer root c request a b p q = let one = exactly_one root c request in one.only a p ∙ sym (one.only b q)
+
+pub one_of_target : (root : List ℕ) (c : Content) (request : Request) (target : Target) (method : Method) (a b : Answer) → AnswersByTarget (server_state root c) target method request a → AnswersByTarget (server_state root c) target method request b → a ≡ b
+one_of_target root c request target method a b p q = let one = one_by_target root c request target method in one.only a p ∙ sym (one.only b q)

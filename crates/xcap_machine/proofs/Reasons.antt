@@ -54,7 +54,9 @@ use Rattle.list_resolve.specs.declared.fault.FlatFault.TheVariants.{NoService, T
 use Rattle.xcap_machine.specs.Feeds.{sends_notice, changes_since_answer}
 use Rattle.xcap_machine.specs.FlatLists.{flat_answer}
 use Rattle.xcap_machine.specs.ReadRequests.{SendsDocument, AnswersWithFound, SendsNode}
-use Rattle.xcap_machine.specs.Requests.{AnswersByMethod, AnswersByTarget, AnswersByUser, DeletesTarget, IsAnswer, PutsTarget, auid_of, fault_status, home_of, is_read_only, allows_method, ReadsTarget as Reads}
+use Rattle.xcap_machine.specs.Requests.{AnswersByTarget, IsAnswer, fault_status}
+use Rattle.xcap_machine.specs.inner.AnswerCases.{AnswersByMethod, AnswersByUser, ReadsTarget as Reads}
+use Rattle.xcap_machine.specs.StandardRequests.{DeletesTarget, PutsTarget, auid_of, home_of, is_read_only, allows_method}
 use Rattle.xcap_machine.specs.Resources.{Resource, absent, beyond_limit, there, version_of}
 use Rattle.xcap_machine.specs.DocumentWrites.{WritesIfStored, PutsBody, PutsDocument, PutsParsedBody, change_answer, delete_reply, fault_conflict, put_answer, put_change, put_reply, text_conflict}
 use Rattle.xcap_machine.specs.inner.AnswerCases.{DeletesDocumentIfStored, DeletesNodeIfStored, PutsElementText, PutsNodeIfStored, PutsValueText, IsAnswerByTarget, PutsParsedText, judgement_answer, version_tag as tag_of, AnswersUnlessStopped}

@@ -16,7 +16,7 @@ use Rattle.xml_tree.proofs.ProperEdits.{around-change_at}
 use Rattle.tree_text.specs.Faults.{IsBodyResult, IsTextResult}
 use Rattle.tree_text.specs.declared.fault.TextFault.{TextFault}
 use Rattle.tree_text.specs.declared.fault.ValueFault.{ValueFault}
-use Rattle.tree_text.proofs.OneAnswer.{one_body, one_text}
+use Rattle.tree_text.proofs.SpellingLemmas.{reads_one_tree, reads_one_value}
 use Rattle.usage_docs.specs.Validation.{HasFirstFault}
 use Rattle.usage_docs.specs.Validity as usage
 use Rattle.usage_docs.specs.declared.validation.Fault.{Fault}
@@ -116,7 +116,7 @@ document_again c id usage request t tag b typed spelled judged free held h =
     let body = unstopped_by request (tag_of (version_of c id)) (is_some (version_of c id)) (MatchBool (has_media_type (document_media_type id.auid) request.fields) Body (b ≡ reply_only (plain_reply 415 request.closes))) b
     (unstopped request (tag_of (version_of c id)) (is_some (version_of c id)) free) h in
     let read = match_true (has_media_type (document_media_type id.auid) request.fields) Body (b ≡ reply_only (plain_reply 415 request.closes)) typed body in
-    let same : read.0 ≡ Ok t = one_text 64 [] request.body read.0 (Ok t) read.1 spelled in
+    let same : read.0 ≡ Ok t = reads_one_tree 64 [] request.body read.0 t read.1 spelled in
     let here : PutsParsedText usage (Ok t) request.closes (put_answer c id request.closes) b = subst (λ (r : Result Tree TextFault). PutsParsedText usage r request.closes (put_answer c id request.closes) b) same read.2 in
     let none : here.0 ≡ None = judged_one usage t here.0 None here.1 judged in
     let answer : b ≡ put_answer c id request.closes t = subst (λ (f : Option Fault). b ≡ judgement_answer f request.closes (put_answer c id request.closes t)) none here.2 in
@@ -216,7 +216,7 @@ module _ (c : Content) (id : DocId) (usage : Usage) (selector : Selector) (t : T
       → IsTextResult (max_height_at (Over p)) (edit_target_scope t (Over p)) request.body (Ok e) → PutsNodeOfVersion (server_state root c) (node_write id usage selector request) (t, tag) b → b ≡ change_answer c id (Replace p e) request.closes (put_reply true request.closes)
   element_again root tag p e place plan there spelled h =
       let here = put_at root tag (Over p) place h in
-      let same : here.0 ≡ Ok e = one_text (max_height_at (Over p)) (edit_target_scope t (Over p)) request.body here.0 (Ok e) here.1 spelled in
+      let same : here.0 ≡ Ok e = reads_one_tree (max_height_at (Over p)) (edit_target_scope t (Over p)) request.body here.0 e here.1 spelled in
       let text : PutsElementText c (node_write id usage selector request) t (Over p) (Ok e) b = subst (λ (r : Result Tree TextFault). PutsElementText c (node_write id usage selector request) t (Over p) r b) same here.2 in
       planned text.0 (Replace p e) (plans.one_put usage t selector.steps (Over p) e text.0 (Ok (Replace p e)) text.1 plan) (element_there t selector p e place.0 place.1 there) text.2
 
@@ -224,7 +224,7 @@ module _ (c : Content) (id : DocId) (usage : Usage) (selector : Selector) (t : T
       → FindsValue selector.steps (record { path = p; uri = uri; local = local }) t value → IsBodyResult request.body (Ok value) → PutsNodeOfVersion (server_state root c) (node_write id usage selector request) (t, tag) b → b ≡ change_answer c id change request.closes (put_reply true request.closes)
   value_again root tag p uri local value change ends_so place plan finds spelled h =
       let here = put_at root tag (Value p) place h in
-      let same : here.0 ≡ Ok value = one_body request.body here.0 (Ok value) here.1 spelled in
+      let same : here.0 ≡ Ok value = reads_one_value request.body here.0 value here.1 spelled in
       let text : PutsValueText c (node_write id usage selector request) t p (Ok value) b = subst (λ (r : Result (List ℕ) ValueFault). PutsValueText c (node_write id usage selector request) t p r b) same here.2 in
       let plan_so : IsAttrPlan (record { usage = usage; document = t; steps = selector.steps }) selector.end p value (Ok change) = subst (λ (end : End). IsAttrPlan (record { usage = usage; document = t; steps = selector.steps }) end p value (Ok change)) (sym ends_so) plan in
       planned text.0 change (plans.one_attr usage t selector.steps selector.end p value text.0 (Ok change) text.1 plan_so) (value_there t selector p uri local value ends_so finds) text.2

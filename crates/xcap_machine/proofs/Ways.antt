@@ -5,6 +5,8 @@ use Rattle.std.proofs.Common.{◌≡◌, ◌≤◌, ℕ, Bool, true, false, not,
 use Rattle.xml_tree.specs.Tree.{Tree, height}
 use Rattle.xml_tree.specs.Proper.{IsProperTree}
 use Rattle.tree_text.specs.Faults.{IsBodyResult, IsTextResult}
+use Rattle.tree_text.specs.Spellings.{ReadsTree, ReadsValue}
+use Rattle.tree_text.proofs.SpellingLemmas.{spelled_answer, spelled_body}
 use Rattle.xml_tree.specs.Print.{document_print}
 use Rattle.tree_text.specs.declared.fault.TextFault.{TextFault}
 use Rattle.tree_text.specs.declared.fault.ValueFault.{ValueFault}
@@ -73,7 +75,9 @@ use Rattle.list_resolve.specs.declared.fault.FlatFault.TheVariants.{NoService, T
 use Rattle.xcap_machine.specs.Feeds.{sends_notice, changes_since_answer}
 use Rattle.xcap_machine.specs.FlatLists.{flat_answer}
 use Rattle.xcap_machine.specs.ReadRequests.{SendsDocument, AnswersWithFound, SendsNode}
-use Rattle.xcap_machine.specs.Requests.{AnswersByMethod, AnswersByTarget, AnswersByUser, DeletesTarget, IsAnswer, IsWritableTarget, PutsTarget, auid_of, fault_status, home_of, is_read_only, allows_method, ReadsTarget as Reads}
+use Rattle.xcap_machine.specs.Requests.{AnswersByTarget, IsAnswer, fault_status}
+use Rattle.xcap_machine.specs.inner.AnswerCases.{AnswersByMethod, AnswersByUser, ReadsTarget as Reads}
+use Rattle.xcap_machine.specs.StandardRequests.{DeletesTarget, IsWritableTarget, PutsTarget, auid_of, home_of, is_read_only, allows_method}
 use Rattle.xcap_machine.specs.Resources.{Resource, absent, beyond_limit, there, version_of}
 use Rattle.xcap_machine.specs.NodeWrites.{RemovesNode, PutsAtEditTarget, PutsFragment, PutsByEditTarget, node_delete_reply, node_exists, max_height_at, plan_answer, plan_refusal_reply, planned_put_answer, edit_target_scope}
 use Rattle.xcap_machine.specs.DocumentWrites.{WritesIfStored, PutsBody, PutsDocument, PutsParsedBody, change_answer, delete_reply, fault_conflict, put_answer, put_change, put_reply, refusal_reply, text_conflict}
@@ -247,9 +251,9 @@ module _ (c : Content) (id : DocId) (request : Request) (a : Answer) where
         by_store Put c request a id (put_change exists t) (put_reply exists request.closes) (λ _. asks) (put_tells exists request.closes) (put_closes exists request.closes) (change_result c id (put_change exists t)) refl
         (is ∙ as_the_store c id (put_change exists t) request.closes (put_reply exists request.closes))
 
-    text_put : (read : Result Tree TextFault) → IsTextResult 64 [] request.body read → PutsParsedText usage read request.closes (put_answer c id request.closes) a → Way Put request.closes c a
+    text_put : (read : Result Tree TextFault) → ReadsTree 64 [] request.body read → PutsParsedText usage read request.closes (put_answer c id request.closes) a → Way Put request.closes c a
     text_put (Err fault) e is = conflicts_so Put c request a (text_conflict conflicts.NotWellFormed fault) is
-    text_put (Ok t) e (judgement, j, is) = judged t e judgement j is
+    text_put (Ok t) e (judgement, j, is) = judged t (spelled_answer 64 [] request.body t e) judgement j is
 
     body_put : PutsBody usage (document_media_type id.auid) request (put_answer c id request.closes) a → Way Put request.closes c a
     body_put is =
@@ -277,10 +281,10 @@ module _ (c : Content) (id : DocId) (request : Request) (a : Answer) where
         asks_to_edit c id usage t tag change known held leaves (put_is usage t selector.steps spot e change here).faultless)
         (put_tells (node_exists t selector) request.closes) (put_closes (node_exists t selector) request.closes) answer
 
-    element_text : (spot : Spot) → IsSpotOf t selector spot → (read : Result Tree TextFault) → IsTextResult (max_height_at spot) (edit_target_scope t spot) request.body read
+    element_text : (spot : Spot) → IsSpotOf t selector spot → (read : Result Tree TextFault) → ReadsTree (max_height_at spot) (edit_target_scope t spot) request.body read
         → PutsElementText c (node_write id usage selector request) t spot read a → Way Put request.closes c a
     element_text spot is (Err fault) read answer = conflicts_so Put c request a (text_conflict conflicts.NotXmlFrag fault) answer
-    element_text spot is (Ok e) read answer = element_planned spot is e read answer.0 answer.1 answer.2
+    element_text spot is (Ok e) read answer = element_planned spot is e (spelled_answer (max_height_at spot) (edit_target_scope t spot) request.body e read) answer.0 answer.1 answer.2
 
     value_planned : (p : List ℕ) (uri local value : List ℕ) → selector.end ≡ ends.Attribute uri local → IsWritable uri local → IsBodyResult request.body (Ok value)
         → (plan : Result Change EditRefusal) → IsAttrPlan (record { usage = usage; document = t; steps = selector.steps }) selector.end p value plan → a ≡ planned_put_answer c (node_write id usage selector request) t plan → Way Put request.closes c a
@@ -294,11 +298,11 @@ module _ (c : Content) (id : DocId) (request : Request) (a : Answer) where
         asks_to_edit c id usage t tag change known held leaves (written_change usage t selector.steps uri local p value change written))
         (put_tells (node_exists t selector) request.closes) (put_closes (node_exists t selector) request.closes) answer
 
-    value_text : (p : List ℕ) (uri local : List ℕ) → selector.end ≡ ends.Attribute uri local → IsWritable uri local → (read : Result (List ℕ) ValueFault) → IsBodyResult request.body read
+    value_text : (p : List ℕ) (uri local : List ℕ) → selector.end ≡ ends.Attribute uri local → IsWritable uri local → (read : Result (List ℕ) ValueFault) → ReadsValue request.body read
         → PutsValueText c (node_write id usage selector request) t p read a → Way Put request.closes c a
     value_text p uri local ends_so may (Err values.NotUtf8) read answer = conflicts_so Put c request a conflicts.NotUtf8 answer
     value_text p uri local ends_so may (Err (values.NotValue place)) read answer = conflicts_so Put c request a conflicts.NotXmlAttValue answer
-    value_text p uri local ends_so may (Ok value) read answer = value_planned p uri local value ends_so may read answer.0 answer.1 answer.2
+    value_text p uri local ends_so may (Ok value) read answer = value_planned p uri local value ends_so may (spelled_body request.body value read) answer.0 answer.1 answer.2
 
     put_at : (spot : Spot) → IsSpotOf t selector spot → IsWritableTarget (Node id selector) → PutsAtEditTarget c (node_write id usage selector request) t spot a → Way Put request.closes c a
     put_at (Over p) is may answer = element_text (Over p) is answer.0 answer.1 answer.2

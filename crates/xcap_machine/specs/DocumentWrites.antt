@@ -9,7 +9,7 @@ use Rattle.std.specs.Option.{option_map_or}
 use Rattle.xml_tree.specs.PathTexts.{path_text}
 use Rattle.xml_tree.specs.Tree.{Tree}
 use Rattle.xml_names.specs.declared.limits.TheConstants.{MAX_LEVELS}
-use Rattle.tree_text.specs.Faults.{IsTextResult}
+use Rattle.tree_text.specs.Spellings.{ReadsTree}
 use Rattle.tree_text.specs.declared.fault.TextFault.{TextFault}
 use Rattle.tree_text.specs.declared.fault.TextFault.TheVariants as texts
 use Rattle.usage_docs.specs.Validation.{HasFirstFault}
@@ -108,7 +108,7 @@ put_answer c id closes t =
 -- as a document of the usage, or none; or the body has a fault
 abbrev pub PutsParsedBody : Usage → Request → (Tree → Answer) → Answer → Type 0
 PutsParsedBody usage request answer a =
-    (read : Result Tree TextFault) × IsTextResult MAX_LEVELS [] request.body read
+    (read : Result Tree TextFault) × ReadsTree MAX_LEVELS [] request.body read
     × MatchResult read
     (λ t.
     (judgement : Option Fault) × HasFirstFault usage t judgement

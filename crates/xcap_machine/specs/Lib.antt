@@ -11,6 +11,7 @@ pub mod ReadRequests
 pub mod Requests
 pub mod Resources
 pub mod ServerStates
+pub mod StandardRequests
 pub mod StepOutcomes
 pub mod SubscriberReplicas
 pub mod SubscriberVersions

@@ -5,11 +5,12 @@ use Rattle.edit_ops.specs.declared.edit.Edit.{Edit}
 use Rattle.reply_text.specs.ReplyHeads.{SentReply}
 use Rattle.http_wire.specs.declared.request.Request.{Request}
 use Rattle.store_core.specs.DocumentChanges.{state_after, contents_after}
-use Rattle.store_core.specs.Contents.{StoreContents, contents_of}
+use Rattle.store_core.specs.Contents.{HasDocumentsOf, StoreContents, contents_of}
 use Rattle.store_core.specs.ValidStates.{IsValidState}
 use Rattle.store_core.specs.State.{State}
 use Rattle.xcap_machine.specs.Answers.{Answer, MadeChange}
 use Rattle.xcap_machine.specs.Requests.{IsAnswer}
+use Rattle.xcap_machine.specs.StandardRequests.{IsStandardAnswer}
 
 -- the state after a change, if there is one
 abbrev pub state_after_answer : State → Option MadeChange → State
@@ -24,8 +25,27 @@ change_from_edit e = (e.doc, e.note)
 abbrev pub answer_with_edit : SentReply → Option Edit → Answer
 answer_with_edit reply edit = record { reply = reply; made = option_map change_from_edit edit }
 
--- The step of the machine of this root: in the state `m`, a request gets this reply, the machine
--- is then in the state `next`, and watchers are notified of this edit, if a change was made.
+-- The step of the machine of the standards under this root: in the state `m`, a request gets this
+-- reply, by the documents that the state has now; the machine is then in the state `next`, and
+-- watchers are notified of this edit, if a change was made. What this server's own addresses are
+-- answered is left open.
+pub record StandardStep (root : List ℕ) (m : State) (request : Request) (reply : SentReply)
+    (next : State) (edit : Option Edit) : Type 0 where
+  pub content : StoreContents
+  pub has : HasDocumentsOf content m
+  pub answers : IsStandardAnswer root content request (answer_with_edit reply edit)
+  pub goes_on : next ≡ state_after_answer m (option_map change_from_edit edit)
+
+-- A step of the machine of the standards that is also one of `OwnStep`, which says what this
+-- server's own addresses are answered.
+abbrev pub StandardStepWith : (List ℕ → State → Request → SentReply → State → Option Edit → Type 0)
+    → List ℕ → State → Request → SentReply → State → Option Edit → Type 0
+StandardStepWith OwnStep root m request reply next edit =
+    StandardStep root m request reply next edit × OwnStep root m request reply next edit
+
+-- The step of the machine of this root, this server's own targets included: in the state `m`, a
+-- request gets this reply, the machine is then in the state `next`, and watchers are notified of
+-- this edit, if a change was made.
 pub record Step (root : List ℕ) (m : State) (request : Request) (reply : SentReply) (next : State)
     (edit : Option Edit) : Type 0 where
   pub answers : IsAnswer root (contents_of m) request (answer_with_edit reply edit)

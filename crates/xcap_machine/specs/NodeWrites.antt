@@ -10,7 +10,7 @@ use Rattle.xml_tree.specs.Tree.{Tree}
 use Rattle.xml_tree.specs.TreeScopes.{scope_around, scope_at}
 use Rattle.xml_names.specs.declared.names.Decl.{Decl}
 use Rattle.xml_names.specs.declared.limits.TheConstants.{MAX_LEVELS}
-use Rattle.tree_text.specs.Faults.{IsBodyResult, IsTextResult}
+use Rattle.tree_text.specs.Spellings.{ReadsTree, ReadsValue}
 use Rattle.tree_text.specs.declared.fault.TextFault.{TextFault}
 use Rattle.tree_text.specs.declared.fault.ValueFault.{ValueFault}
 use Rattle.tree_text.specs.declared.fault.ValueFault.TheVariants as values
@@ -111,7 +111,7 @@ module _ (c : StoreContents) (put : NodeWrite) (t : Tree) where
   PutsElement spot a =
       let closes = put.request.closes in
       (read : Result Tree TextFault)
-      × IsTextResult (max_height_at spot) (edit_target_scope t spot) put.request.body read
+      × ReadsTree (max_height_at spot) (edit_target_scope t spot) put.request.body read
       × MatchResult read
       (λ e.
       (plan : Result Change EditRefusal)
@@ -123,7 +123,7 @@ module _ (c : StoreContents) (put : NodeWrite) (t : Tree) where
   -- the answer to a body that is the value of an attribute of the element at p; or has a fault
   abbrev pub PutsValue : List ℕ → Answer → Type 0
   PutsValue p a =
-      (read : Result (List ℕ) ValueFault) × IsBodyResult put.request.body read
+      (read : Result (List ℕ) ValueFault) × ReadsValue put.request.body read
       × MatchResult read
       (λ value.
       (plan : Result Change EditRefusal)

@@ -8,7 +8,7 @@ use Rattle.http_wire.specs.declared.request.Request.{Request}
 use Rattle.request_checks.specs.declared.method.Method.{Method}
 use Rattle.request_checks.specs.declared.method.Method.TheVariants.{Get, Head, Put, Delete, Other}
 use Rattle.store_core.specs.State.{State}
-use Rattle.xcap_machine.specs.Machine.{Step}
+use Rattle.xcap_machine.specs.Machine.{StandardStep, Step}
 
 -- what was put is new (201) or replaced something (200); what was deleted is gone (200); all other
 -- replies report no change
@@ -36,3 +36,10 @@ pub record HasStep (root : List ℕ) (m : State) (request : Request) : Type 0 wh
   pub next : State
   pub edit : Option Edit
   pub step : Step root m request reply next edit
+
+-- a step of the standards' machine from a state, on a request
+pub record HasStandardStep (root : List ℕ) (m : State) (request : Request) : Type 0 where
+  pub reply : SentReply
+  pub next : State
+  pub edit : Option Edit
+  pub step : StandardStep root m request reply next edit

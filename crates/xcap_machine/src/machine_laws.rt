@@ -1,5 +1,5 @@
 //! Laws of the machine, each the contract of a function that does nothing.
-ghost use Rattle.std.specs.Prelude.{◌≡◌, ℕ, ◌+◌, ◌≤◌, true, false, List, Option, Ok, IsSome};
+ghost use Rattle.std.specs.Prelude.{◌≡◌, ◌⊎◌, ℕ, ◌+◌, ◌≤◌, true, false, List, Option, Ok, IsSome};
 ghost use Rattle.http_wire.specs.declared.request.Request.{Request};
 ghost use Rattle.doc_names.specs.declared.doc_id.DocId.{DocId};
 ghost use Rattle.edit_ops.specs.Notes.{Note};
@@ -12,6 +12,7 @@ ghost use Rattle.store_core.specs.ValidStates.{IsValidState};
 ghost use Rattle.store_core.specs.DocumentChanges.{change_result};
 ghost use Rattle.store_core.specs.ChangePreconditions.{MayRequest};
 ghost use Rattle.store_core.specs.State.{State};
+ghost use Rattle.xcap_uri.specs.Meanings.{IsOwnAddress};
 ghost use Rattle.xcap_uri.specs.Targets.{IsTargetResult};
 ghost use Rattle.xcap_uri.specs.declared.target.Target.{Target};
 ghost use Rattle.xcap_machine.specs.Answers.{Answer};
@@ -19,10 +20,11 @@ ghost use Rattle.xcap_machine.specs.WriteEffects.{DeleteTargetIsGone, EditKeepsK
 ghost use Rattle.xcap_machine.specs.WriteEffects.{PutTargetExists};
 ghost use Rattle.xcap_machine.specs.WriteEffects.{RepeatedPutPreservesTrees};
 ghost use Rattle.xcap_machine.specs.KeyAddresses.{ChangeKeepsKeyAddresses};
-ghost use Rattle.xcap_machine.specs.Machine.{ContentStep, ValidStep, Step};
-ghost use Rattle.xcap_machine.specs.Requests.{IsAnswer, IsWritableTarget};
-ghost use Rattle.xcap_machine.specs.StepOutcomes.{IsDeterministic, ChangesNothing, HasStep};
-ghost use Rattle.xcap_machine.specs.StepOutcomes.{reports_change};
+ghost use Rattle.xcap_machine.specs.Machine.{ContentStep, StandardStep, ValidStep, Step};
+ghost use Rattle.xcap_machine.specs.Requests.{IsAnswer};
+ghost use Rattle.xcap_machine.specs.StandardRequests.{IsStandardAnswer, IsWritableTarget};
+ghost use Rattle.xcap_machine.specs.StepOutcomes.{IsDeterministic, ChangesNothing};
+ghost use Rattle.xcap_machine.specs.StepOutcomes.{HasStandardStep, HasStep, reports_change};
 
 /// A law: under each root, a request has exactly one answer on given store contents: one reply,
 /// and one change or none. So it leaves one possible contents; and from each state the machine
@@ -38,6 +40,28 @@ pub fn each_request_has_one_answer()
         → HasStep root m request }
     ensures steps_are_one { (root : List ℕ) (m : State) (request : Request)
         → IsDeterministic (Step root m request) }
+{}
+
+/// A law: by the standards alone a request has exactly one answer on given store contents, except
+/// at this server's own addresses, whose answers they leave open.
+pub fn the_standards_leave_one_answer()
+    ensures answer_exists { (root : List ℕ) (c : StoreContents) (request : Request)
+        → (a : Answer) × IsStandardAnswer root c request a }
+    ensures answers_are_one { (root : List ℕ) (c : StoreContents) (request : Request) (a b : Answer)
+        → IsStandardAnswer root c request a → IsStandardAnswer root c request b
+        → (a ≡ b) ⊎ IsOwnAddress root request.target }
+{}
+
+/// A law: the machine's answers are answers by the standards alone, and so are its steps; so there
+/// is one from each state.
+pub fn each_answer_is_by_the_standards()
+    ensures standard_answer { (root : List ℕ) (c : StoreContents) (request : Request) (a : Answer)
+        → IsAnswer root c request a → IsStandardAnswer root c request a }
+    ensures standard_step { (root : List ℕ) (m : State) (request : Request)
+        (reply : SentReply) (next : State) (edit : Option Edit)
+        → Step root m request reply next edit → StandardStep root m request reply next edit }
+    ensures step_exists { (root : List ℕ) (m : State) (request : Request)
+        → HasStandardStep root m request }
 {}
 
 /// A law: a step whose status reports no change leaves the state unchanged and has no edit; so

@@ -4,6 +4,8 @@ use Rattle.store_core.specs.Contents.{StoreContents as Content}
 use Rattle.xml_tree.specs.Tree.{Tree}
 use Rattle.reply_bodies.specs.declared.conflicts.ErrorBody.TheVariants as conflicts
 use Rattle.tree_text.specs.Faults.{IsBodyResult, IsTextResult}
+use Rattle.tree_text.specs.Spellings.{ReadsTree}
+use Rattle.tree_text.proofs.SpellingLemmas.{reads_tree, reads_value}
 use Rattle.xml_names.specs.ReadErrors.{ResultSatisfies}
 use Rattle.xml_names.specs.declared.read_error.ReadError.{ReadError}
 use Rattle.xml_names.specs.declared.read_error.ReadError.TheVariants.{Fault}
@@ -27,9 +29,7 @@ use Rattle.xcap_machine.specs.NodeWrites.{RemovesNode, PutsAtEditTarget, PutsEle
 use Rattle.xcap_machine.specs.DocumentWrites.{text_conflict}
 use Rattle.xcap_machine.specs.inner.RecordValues.{node_write}
 use Rattle.xcap_machine.proofs.Cases.{at_true}
-use Rattle.xcap_put.specs.inner.RequestPlans.{IsPlanFromResult, IsValidChange}
-use Rattle.xcap_put.specs.declared.plan.Plan.{Plan}
-use Rattle.xcap_put.specs.declared.plan.Plan.TheVariants.{Stops}
+use Rattle.xcap_put.specs.inner.RequestPlans.{IsPlanFromResult, IsValidChange, Plan}
 use Rattle.xcap_put.proofs.PlanAnswers.{Planned, Plans, all_stopped_by, plans_so, planned_so}
 
 module _ (usage : Usage) (selector : Selector) (t : Tree) (request : Request) where
@@ -50,18 +50,21 @@ module _ (usage : Usage) (selector : Selector) (t : Tree) (request : Request) wh
   spelled_element : (spot : Spot) (bytes : List ℕ) (read : Result Tree TextFault) → bytes ≡ request.body → IsTextResult (max_height_at spot) (edit_target_scope t spot) bytes read → IsTextResult (max_height_at spot) (edit_target_scope t spot) request.body read
   spelled_element spot bytes read same spelled = subst (λ (b : List ℕ). IsTextResult (max_height_at spot) (edit_target_scope t spot) b read) same spelled
 
+  read_element : (spot : Spot) (read : Result Tree TextFault) → IsTextResult (max_height_at spot) (edit_target_scope t spot) request.body read → ReadsTree (max_height_at spot) (edit_target_scope t spot) request.body read
+  read_element spot read answer = reads_tree (max_height_at spot) (edit_target_scope t spot) request.body read answer
+
   pub element_puts : {E : Type 0} (spot : Spot) (e : Tree) (bytes : List ℕ) → bytes ≡ request.body → IsTextResult (max_height_at spot) (edit_target_scope t spot) bytes (Ok e)
       → ((change : Change) → IsPutPlan (record { usage = usage; document = t; steps = selector.steps }) spot e (Ok change) → IsValidChange usage t change) → (exists : Bool) → exists ≡ node_exists t selector
       → (r : Result Change EditRefusal) (plan : Result Plan E) → IsPutPlan (record { usage = usage; document = t; steps = selector.steps }) spot e r → IfOk plan (IsPlanFromResult r exists closes) → IfOk plan (Plans usage t closes (PutsOne spot))
   element_puts spot e bytes same spelled may exists known r plan words told =
-      plans_so usage t closes (Planned (IsPutPlan (record { usage = usage; document = t; steps = selector.steps }) spot e) (node_exists t selector) closes) (PutsOne spot) (λ c id a is. (Ok e, spelled_element spot bytes (Ok e) same spelled, is)) plan
+      plans_so usage t closes (Planned (IsPutPlan (record { usage = usage; document = t; steps = selector.steps }) spot e) (node_exists t selector) closes) (PutsOne spot) (λ c id a is. (Ok e, read_element spot (Ok e) (spelled_element spot bytes (Ok e) same spelled), is)) plan
       (planned_put (IsPutPlan (record { usage = usage; document = t; steps = selector.steps }) spot e) may exists known r plan words told)
 
   pub element_refused : {E : Type 0} (spot : Spot) (fault : TextFault) (error : ReadError TextFault) (bytes : List ℕ) → bytes ≡ request.body → error ≡ Fault fault → ResultSatisfies (IsTextResult (max_height_at spot) (edit_target_scope t spot) bytes) (Err error)
-      → (plan : Result Plan E) → IfOk plan (λ p. p ≡ Stops (error_reply (text_conflict conflicts.NotXmlFrag fault) closes)) → IfOk plan (Plans usage t closes (PutsOne spot))
+      → (plan : Result Plan E) → IfOk plan (λ p. p ≡ Err (error_reply (text_conflict conflicts.NotXmlFrag fault) closes)) → IfOk plan (Plans usage t closes (PutsOne spot))
   element_refused spot fault error bytes same is answered plan told =
       let spelled : IsTextResult (max_height_at spot) (edit_target_scope t spot) bytes (Err fault) = subst (λ (e : ReadError TextFault). ResultSatisfies (IsTextResult (max_height_at spot) (edit_target_scope t spot) bytes) (Err e)) is answered in
-      all_stopped_by usage t closes (PutsOne spot) plan (error_reply (text_conflict conflicts.NotXmlFrag fault) closes) told (λ c id. (Err fault, spelled_element spot bytes (Err fault) same spelled, refl))
+      all_stopped_by usage t closes (PutsOne spot) plan (error_reply (text_conflict conflicts.NotXmlFrag fault) closes) told (λ c id. (Err fault, read_element spot (Err fault) (spelled_element spot bytes (Err fault) same spelled), refl))
 
   -- ---- attributes
 
@@ -75,14 +78,14 @@ module _ (usage : Usage) (selector : Selector) (t : Tree) (request : Request) wh
       → ((change : Change) → IsAttrPlan (record { usage = usage; document = t; steps = selector.steps }) selector.end p value (Ok change) → IsValidChange usage t change) → (exists : Bool) → exists ≡ node_exists t selector
       → (r : Result Change EditRefusal) (plan : Result Plan E) → IsAttrPlan (record { usage = usage; document = t; steps = selector.steps }) selector.end p value r → IfOk plan (IsPlanFromResult r exists closes) → IfOk plan (Plans usage t closes (PutsIt p))
   value_puts p value bytes same spelled may exists known r plan words told =
-      plans_so usage t closes (Planned (IsAttrPlan (record { usage = usage; document = t; steps = selector.steps }) selector.end p value) (node_exists t selector) closes) (PutsIt p) (λ c id a is. (Ok value, spelled_value bytes (Ok value) same spelled, is)) plan
+      plans_so usage t closes (Planned (IsAttrPlan (record { usage = usage; document = t; steps = selector.steps }) selector.end p value) (node_exists t selector) closes) (PutsIt p) (λ c id a is. (Ok value, reads_value request.body (Ok value) (spelled_value bytes (Ok value) same spelled), is)) plan
       (planned_put (IsAttrPlan (record { usage = usage; document = t; steps = selector.steps }) selector.end p value) may exists known r plan words told)
 
   pub value_refused : {E : Type 0} (p : List ℕ) (fault : ValueFault) (error : ReadError ValueFault) (bytes : List ℕ) → bytes ≡ request.body → error ≡ Fault fault → ResultSatisfies (IsBodyResult bytes) (Err error)
-      → (plan : Result Plan E) → IfOk plan (λ x. x ≡ Stops (error_reply (value_conflict fault) closes)) → IfOk plan (Plans usage t closes (PutsIt p))
+      → (plan : Result Plan E) → IfOk plan (λ x. x ≡ Err (error_reply (value_conflict fault) closes)) → IfOk plan (Plans usage t closes (PutsIt p))
   value_refused p fault error bytes same is answered plan told =
       let spelled : IsBodyResult bytes (Err fault) = subst (λ (e : ReadError ValueFault). ResultSatisfies (IsBodyResult bytes) (Err e)) is answered in
-      all_stopped_by usage t closes (PutsIt p) plan (error_reply (value_conflict fault) closes) told (λ c id. (Err fault, spelled_value bytes (Err fault) same spelled, refl))
+      all_stopped_by usage t closes (PutsIt p) plan (error_reply (value_conflict fault) closes) told (λ c id. (Err fault, reads_value request.body (Err fault) (spelled_value bytes (Err fault) same spelled), refl))
 
   -- ---- by the edit target
 

@@ -17,9 +17,7 @@ use Rattle.edit_rules.specs.declared.edit_refusal.EditRefusal.{EditRefusal}
 use Rattle.edit_rules.specs.declared.edit_refusal.EditRefusal.TheVariants.{NotFound, CannotDelete, Faulty}
 use Rattle.http_wire.specs.declared.request.Request.{Request}
 use Rattle.xcap_machine.specs.NodeWrites.{node_exists}
-use Rattle.xcap_put.specs.inner.RequestPlans.{IsRemovalPlan, IsPlanFromResult, IsValidChange}
-use Rattle.xcap_put.specs.declared.plan.Plan.{Plan}
-use Rattle.xcap_put.specs.declared.plan.Plan.TheVariants.{Makes}
+use Rattle.xcap_put.specs.inner.RequestPlans.{IsRemovalPlan, IsPlanFromResult, IsValidChange, Plan}
 use Rattle.xcap_put.proofs.BodyPlans.{cuts}
 
 -- ---- where a node is found, it isn't reported as missing
@@ -66,10 +64,10 @@ module _ (texts : (root : Tree) (selector : Selector) → IsSome (found_text roo
   present r found (inl h) = absurd (found h.0)
   present r found (inr h) = (texts t selector).1 h.0
 
-  pub cut : (change : Change) → IsDeletePlan u t selector (Ok change) → IsRemovalPlan u t selector request (Some (Makes change true))
+  pub cut : (change : Change) → IsDeletePlan u t selector (Ok change) → IsRemovalPlan u t selector request (Some (Ok (record { change = change; exists = true })))
   cut change words = (
     present (Ok change) (no_error change NotFound) words,
-    cuts u selector t request {E = Unit {0}} may (Ok change) (Ok (Makes change true)) words refl,
+    cuts u selector t request {E = Unit {0}} may (Ok change) (Ok (Ok (record { change = change; exists = true }))) words refl,
   )
 
   pub removal_refusal : {E : Type 0} (why : EditRefusal) → IsDeletePlan u t selector (Err why) → (r : Result (Option Plan) E)

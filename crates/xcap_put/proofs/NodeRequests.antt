@@ -19,10 +19,8 @@ use Rattle.xcap_machine.specs.inner.AnswerCases.{DeletesNodeOfVersion, PutsNodeO
 use Rattle.xcap_machine.specs.inner.RecordValues.{representation, server_state, node_write}
 use Rattle.xcap_machine.proofs.Cases.{at_true, stopped, unstopped}
 use Rattle.xcap_put.specs.Decisions.{DecidesAnswer}
-use Rattle.xcap_put.specs.inner.RequestPlans.{IsPlanFor, answer_of_plan}
+use Rattle.xcap_put.specs.inner.RequestPlans.{IsPlanFor, answer_of_plan, Plan}
 use Rattle.xcap_put.specs.declared.decision.Decision.{Decision}
-use Rattle.xcap_put.specs.declared.plan.Plan.{Plan}
-use Rattle.xcap_put.specs.declared.plan.Plan.TheVariants.{Stops}
 use Rattle.xcap_put.proofs.DecisionAnswers.{all_so}
 use Rattle.xcap_put.proofs.PlanAnswers.{Plans, plans_so, stopped_by}
 
@@ -36,9 +34,9 @@ module _ (usage : Usage) (t : Tree) (request : Request) (tag : ℕ) (exists ther
     is_its_stop : IsConditionReply request (Some tag) there false stop
     is_its_stop = subst (λ (b : Bool). IsConditionReply request (Some tag) b false stop) known is
 
-    pub plan_stopped : (reply : SentReply) → stop ≡ Some reply → Plans usage t request.closes BehindIt (Stops reply)
+    pub plan_stopped : (reply : SentReply) → stop ≡ Some reply → Plans usage t request.closes BehindIt (Err reply)
     plan_stopped reply so =
-        stopped_by usage t request.closes BehindIt (Stops reply) reply refl (λ c id. stopped request (Some tag) there false stop is_its_stop reply (P c id (reply_only reply)) so)
+        stopped_by usage t request.closes BehindIt (Err reply) reply refl (λ c id. stopped request (Some tag) there false stop is_its_stop reply (P c id (reply_only reply)) so)
 
     pub plan_unstopped : {E : Type 0} (plan : Result Plan E) → stop ≡ None → IfOk plan (Plans usage t request.closes P) → IfOk plan (Plans usage t request.closes BehindIt)
     plan_unstopped plan so plans =

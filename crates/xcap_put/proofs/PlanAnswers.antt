@@ -25,9 +25,7 @@ use Rattle.xcap_machine.specs.NodeWrites.{IsWritableSelector, plan_answer}
 use Rattle.xcap_machine.specs.Resources.{version_of}
 use Rattle.xcap_machine.specs.DocumentWrites.{put_reply}
 use Rattle.xcap_machine.proofs.PutPremises.{asks_to_edit}
-use Rattle.xcap_put.specs.inner.RequestPlans.{AsksForPlan, IsPlanFor, IsPlanFromResult, IsValidChange, HasValidChange}
-use Rattle.xcap_put.specs.declared.plan.Plan.{Plan}
-use Rattle.xcap_put.specs.declared.plan.Plan.TheVariants.{Stops, Makes}
+use Rattle.xcap_put.specs.inner.RequestPlans.{AsksForPlan, IsPlanFor, IsPlanFromResult, IsValidChange, HasValidChange, Plan}
 
 -- ---- plans of one kind
 
@@ -37,17 +35,17 @@ Plans usage t closes Is plan = (id : DocId) → IsPlanFor usage t id closes (λ 
 
 module _ (usage : Usage) (t : Tree) (closes : Bool) (Is : Content → DocId → Answer → Type 0) where
   -- a reply alone
-  pub stopped_by : (plan : Plan) (reply : SentReply) → plan ≡ Stops reply → ((c : Content) (id : DocId) → Is c id (reply_only reply)) → Plans usage t closes Is plan
+  pub stopped_by : (plan : Plan) (reply : SentReply) → plan ≡ Err reply → ((c : Content) (id : DocId) → Is c id (reply_only reply)) → Plans usage t closes Is plan
   stopped_by plan reply so is id = subst (λ (p : Plan). IsPlanFor usage t id closes (λ c a. Is c id a) p) (sym so) (record { answers = λ c. is c id; may_be_made = tt })
 
-  pub all_stopped_by : {E : Type 0} (r : Result Plan E) (reply : SentReply) → IfOk r (λ plan. plan ≡ Stops reply) → ((c : Content) (id : DocId) → Is c id (reply_only reply)) → IfOk r (Plans usage t closes Is)
+  pub all_stopped_by : {E : Type 0} (r : Result Plan E) (reply : SentReply) → IfOk r (λ plan. plan ≡ Err reply) → ((c : Content) (id : DocId) → Is c id (reply_only reply)) → IfOk r (Plans usage t closes Is)
   all_stopped_by (Ok plan) reply so is = stopped_by plan reply so is
   all_stopped_by (Err e) reply so is = tt
 
   -- plans of one kind are of another
   pub plans_so : (Will : Content → DocId → Answer → Type 0) → ((c : Content) (id : DocId) (a : Answer) → Is c id a → Will c id a) → {E : Type 0} (r : Result Plan E) → IfOk r (Plans usage t closes Is) → IfOk r (Plans usage t closes Will)
-  plans_so Will so (Ok (Stops reply)) plans = λ id. record { answers = λ c. so c id _ ((plans id).answers c); may_be_made = tt }
-  plans_so Will so (Ok (Makes change exists)) plans = λ id. record { answers = λ c. so c id _ ((plans id).answers c); may_be_made = (plans id).may_be_made }
+  plans_so Will so (Ok (Err reply)) plans = λ id. record { answers = λ c. so c id _ ((plans id).answers c); may_be_made = tt }
+  plans_so Will so (Ok (Ok planned)) plans = λ id. record { answers = λ c. so c id _ ((plans id).answers c); may_be_made = (plans id).may_be_made }
   plans_so Will so (Err e) plans = tt
 
 -- ---- by a planned change
@@ -91,8 +89,8 @@ module _ (usage : Usage) (t : Tree) (selector : Selector) (sound : IsSoundDocume
 -- ---- the store may be asked
 
 asks_by : (c : Content) (id : DocId) (usage : Usage) (t : Tree) (tag : ℕ) (plan : Plan) → usage_of id.auid ≡ Some usage → ◌≡◌ {A = Option (Tree × ℕ)} (version_of c id) (Some (t, tag)) → HasValidChange usage t plan → AsksForPlan c id plan
-asks_by c id usage t tag (Stops reply) known is may = tt
-asks_by c id usage t tag (Makes change exists) known is may = asks_to_edit c id usage t tag change known is may.leaves may.faultless
+asks_by c id usage t tag (Err reply) known is may = tt
+asks_by c id usage t tag (Ok planned) known is may = asks_to_edit c id usage t tag planned.change known is may.leaves may.faultless
 
 pub asks_for : (c : Content) (id : DocId) (usage : Usage) (t : Tree) (tag : ℕ) (closes : Bool) (Is : Content → Answer → Type 0) (plan : Plan) → usage_of id.auid ≡ Some usage → ◌≡◌ {A = Option (Tree × ℕ)} (version_of c id) (Some (t, tag))
     → IsPlanFor usage t id closes Is plan → AsksForPlan c id plan

@@ -20,12 +20,13 @@ use Rattle.xcap_put.specs.declared.decision.Decision.{Decision}
 use Rattle.xcap_put.proofs.Conditions.{tagged_where_held}
 use Rattle.xcap_put.proofs.DecisionAnswers.{all_so}
 
-module _ (c : Content) (id : DocId) (t : Tree) (closes : Bool) (tag : Option ℕ) (exists : Bool) (tag_is : tag ≡ tag_of (version_of c id)) (known : exists ≡ is_some tag) where
+-- a document is there where it has a tag
+pub there_if_tagged : (c : Content) (id : DocId) (tag : Option ℕ) (exists : Bool) → tag ≡ tag_of (version_of c id) → exists ≡ is_some tag → exists ≡ is_some (version_of c id)
+there_if_tagged c id tag exists tag_is known = known ∙ ap (λ (x : Option ℕ). is_some x) tag_is ∙ tagged_where_held (version_of c id)
+
+module _ (c : Content) (id : DocId) (t : Tree) (closes : Bool) (exists : Bool) (node_exists : exists ≡ is_some (version_of c id)) where
   abbrev there : Bool
   there = is_some (version_of c id)
-
-  node_exists : exists ≡ there
-  node_exists = known ∙ ap (λ (x : Option ℕ). is_some x) tag_is ∙ tagged_where_held (version_of c id)
 
   module _ (change : Change) (is : change ≡ put_change exists t) where
     is_put : change ≡ put_change there t

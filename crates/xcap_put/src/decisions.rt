@@ -76,7 +76,7 @@ pub(crate) fn decide_plan(
     ensures contents_unchanged { store.new.content ≡ store.old.content }
 {
     match plan {
-        Plan::Stops(reply) => Ok(Decision::Stays(reply)),
-        Plan::Makes { change, exists } => decide_change(alloc, store, doc, change, exists, closes),
+        Ok(planned) => decide_change(alloc, store, doc, planned.change, planned.exists, closes),
+        Err(reply) => Ok(Decision::Stays(reply)),
     }
 }

@@ -1,5 +1,5 @@
 //! PUT and DELETE of documents (RFC 4825, sections 8.2 and 8.4).
-ghost use Rattle.std.specs.Prelude.{◌≡◌, false, IfOk, Some};
+ghost use Rattle.std.specs.Prelude.{◌≡◌, false, is_some, IfOk, Some};
 ghost use Rattle.doc_names.specs.DocIds.{IsAddressable};
 ghost use Rattle.doc_names.specs.Usages.{usage_of};
 ghost use Rattle.edit_ops.specs.declared.change.Change.TheVariants as changes;
@@ -49,15 +49,17 @@ fn put_change(exists: bool, root: Element) -> Change
     Change::CreateDocument { root }
 }
 
-// Puts a tree that is a document of its usage.
+// Puts a tree that is a document of its usage, where one is stored or not.
 fn put_tree(
     alloc: Global,
     store: &mut Store,
     doc: DocId,
     usage: Usage,
     root: Element,
+    exists: bool,
     closes: bool,
 ) -> Result<Decision, AllocError>
+    requires exists_iff { exists ≡ is_some (version_of store.old.content doc) }
     requires readable { IsAddressable doc }
     requires user_document { IsUserHome doc.home }
     requires usage_of_doc { usage_of doc.auid ≡ Some usage }
@@ -66,18 +68,19 @@ fn put_tree(
         (λ d. DecidesAnswer (λ a. a ≡ put_answer store.old.content doc closes root) store.new d) }
     ensures contents_unchanged { store.new.content ≡ store.old.content }
 {
-    let exists = tag_of(store, &doc).is_some();
     decide_change(alloc, store, doc, put_change(exists, root), exists, closes)
 }
 
-// Puts a document after the conditions passed.
+// Puts a document after the conditions passed, where one is stored or not.
 fn put_document_body(
     alloc: Global,
     store: &mut Store,
     doc: DocId,
     usage: Usage,
+    exists: bool,
     request: &Request,
 ) -> Result<Decision, AllocError>
+    requires exists_iff { exists ≡ is_some (version_of store.old.content doc) }
     requires readable { IsAddressable doc }
     requires user_document { IsUserHome doc.home }
     requires usage_of_doc { usage_of doc.auid ≡ Some usage }
@@ -89,7 +92,7 @@ fn put_document_body(
     let media = document_media_type(doc.auid);
     match read_request_body(alloc, usage, media, request)? {
         Body::Refused(reply) => Ok(Decision::Stays(reply)),
-        Body::Document(root) => put_tree(alloc, store, doc, usage, root, request.closes),
+        Body::Document(root) => put_tree(alloc, store, doc, usage, root, exists, request.closes),
     }
 }
 
@@ -115,9 +118,10 @@ pub fn put_document(
     ensures contents_unchanged { store.new.content ≡ store.old.content }
 {
     let tag = tag_of(store, &doc);
-    match condition_reply(alloc, request, tag, tag.is_some(), false)? {
+    let exists = tag.is_some();
+    match condition_reply(alloc, request, tag, exists, false)? {
         Some(reply) => Ok(Decision::Stays(reply)),
-        None => put_document_body(alloc, store, doc, usage, request),
+        None => put_document_body(alloc, store, doc, usage, exists, request),
     }
 }
 

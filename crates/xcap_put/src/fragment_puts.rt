@@ -1,5 +1,5 @@
 //! The body of a PUT of a node (RFC 4825, sections 8.2.3 and 8.2.4).
-ghost use Rattle.std.specs.Prelude.{◌≡◌, ◌≤◌, IfOk, IsSome};
+ghost use Rattle.std.specs.Prelude.{◌≡◌, ◌≤◌, Err, IfOk, IsSome};
 ghost use Rattle.xml_tree.specs.TreeScopes.{scope_around, scope_at};
 ghost use Rattle.xml_tree.specs.Tree.{at, height};
 ghost use Rattle.reply_bodies.specs.declared.conflicts.ErrorBody.TheVariants as conflicts;
@@ -13,7 +13,6 @@ ghost use Rattle.edit_rules.specs.declared.spot.Spot.TheVariants.{Value};
 ghost use Rattle.store_core.specs.ValidStates.{IsSoundDocument};
 ghost use Rattle.xcap_machine.specs.Answers.{error_reply};
 ghost use Rattle.xcap_machine.specs.DocumentWrites.{text_conflict};
-ghost use Rattle.xcap_put.specs.declared.plan.Plan.TheVariants.{Stops};
 ghost use Rattle.xcap_machine.specs.NodeWrites.{IsWritableSelector, PutsAtEditTarget, PutsElement};
 ghost use Rattle.xcap_machine.specs.NodeWrites.{PutsFragment};
 ghost use Rattle.xcap_machine.specs.NodeWrites.{PutsValue, node_exists, max_height_at};
@@ -107,11 +106,11 @@ fn read_element(
 // The reply to a body that is no element.
 fn element_refusal_plan(alloc: Global, fault: TextFault, closes: bool) -> Result<Plan, AllocError>
     ensures fault_reply { IfOk result
-        (λ plan. plan ≡ Stops (error_reply (text_conflict conflicts.NotXmlFrag fault) closes)) }
+        (λ plan. plan ≡ Err (error_reply (text_conflict conflicts.NotXmlFrag fault) closes)) }
 {
     let body = text_conflict(ErrorBody::NotXmlFrag, fault);
     let reply = conflict_reply(alloc, &body, closes)?;
-    Ok(Plan::Stops(reply))
+    Ok(Err(reply))
 }
 
 // The plan of a PUT of an element, where the media type is that of elements.
@@ -159,11 +158,11 @@ fn value_conflict(fault: ValueFault) -> ErrorBody
 // The reply to a body that is no attribute value.
 fn value_refusal_plan(alloc: Global, fault: ValueFault, closes: bool) -> Result<Plan, AllocError>
     ensures fault_reply { IfOk result
-        (λ plan. plan ≡ Stops (error_reply (value_conflict fault) closes)) }
+        (λ plan. plan ≡ Err (error_reply (value_conflict fault) closes)) }
 {
     let body = value_conflict(fault);
     let reply = conflict_reply(alloc, &body, closes)?;
-    Ok(Plan::Stops(reply))
+    Ok(Err(reply))
 }
 
 // The plan of a PUT of an attribute of the element at a path, where the media type is that of
@@ -253,7 +252,7 @@ pub(crate) fn put_fragment(
         tree.now spot.now a) plan) }
 {
     if !has_media_type(request, node_media_type(&selector.end)) {
-        return Ok(Plan::Stops(Reply::fixed(415, request.closes)));
+        return Ok(Err(Reply::fixed(415, request.closes)));
     }
     put_node_body(alloc, usage, tree, selector, spot, exists, request)
 }

@@ -21,7 +21,7 @@ use crate::Decision;
 use crate::conflicts::no_parent_reply;
 use crate::decisions::decide_plan;
 use crate::fragment_puts::put_fragment;
-use crate::plan::Plan;
+use crate::plan::{Plan, PlannedChange};
 use crate::refusal_replies::unplanned;
 use doc_names::{Auid, DocId, Home, Usage};
 use edit_plans::{EditRefusal, Spot, plan_delete, put_spot};
@@ -82,7 +82,7 @@ fn plan_put_at(
 {
     let exists = node_exists(alloc, tree, selector, spot);
     match condition_reply(alloc, request, Some(tag), exists, false)? {
-        Some(reply) => Ok(Plan::Stops(reply)),
+        Some(reply) => Ok(Err(reply)),
         None => put_fragment(alloc, usage, tree, selector, spot, exists, request),
     }
 }
@@ -112,7 +112,7 @@ fn plan_put_in_document(
         Err(_) => {
             let uri = ancestor_uri(alloc, root, doc, tree, selector)?;
             let reply = no_parent_reply(alloc, uri, request.closes)?;
-            Ok(Plan::Stops(reply))
+            Ok(Err(reply))
         }
     }
 }
@@ -191,7 +191,7 @@ fn removal_refusal(
         EditRefusal::NotFound => Ok(None),
         why => {
             let reply = unplanned(alloc, why, closes)?;
-            Ok(Some(Plan::Stops(reply)))
+            Ok(Some(Err(reply)))
         }
     }
 }
@@ -211,10 +211,10 @@ fn plan_node_removal(
 {
     texts_are_those_of_found_nodes();
     match plan_delete(alloc, usage, tree, selector)? {
-        Ok(change) => Ok(Some(Plan::Makes {
+        Ok(change) => Ok(Some(Ok(PlannedChange {
             change,
             exists: true,
-        })),
+        }))),
         Err(why) => removal_refusal(alloc, why, request.closes),
     }
 }
@@ -238,13 +238,13 @@ fn plan_delete_in_document(
 {
     let (tree, tag) = held;
     let Some(plan) = plan_node_removal(alloc, usage, tree, selector, request)? else {
-        return Ok(Plan::Stops(Reply::fixed(404, request.closes)));
+        return Ok(Err(Reply::fixed(404, request.closes)));
     };
     match condition_reply(alloc, request, Some(tag), true, false) {
         Ok(None) => Ok(plan),
         Ok(Some(reply)) => {
             drop(plan);
-            Ok(Plan::Stops(reply))
+            Ok(Err(reply))
         }
         Err(error) => {
             drop(plan);

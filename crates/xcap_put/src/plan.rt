@@ -8,15 +8,17 @@ use edit_plans::EditRefusal;
 use reply_text::Reply;
 use std::alloc::{AllocError, Global};
 
-/// The plan of a request on a node, before the store is asked.
+/// The change that the store is asked for; `exists` where the node that is written is there
+/// already.
 #[derive(Drop)]
-pub(crate) enum Plan {
-    /// The request gets this reply, and changes nothing.
-    Stops(Reply),
-    /// The store is asked for this change; `exists` where the node that is written is there
-    /// already.
-    Makes { change: Change, exists: bool },
+pub(crate) struct PlannedChange {
+    pub(crate) change: Change,
+    pub(crate) exists: bool,
 }
+
+/// The plan of a request on a node: the change that the store is asked for, or the reply without
+/// a change.
+pub(crate) type Plan = Result<PlannedChange, Reply>;
 
 /// The plan of a planned change, or of the reason why there is none.
 pub(crate) fn plan_from_result(
@@ -28,10 +30,10 @@ pub(crate) fn plan_from_result(
     ensures exact_plan { IfOk result (λ plan. IsPlanFromResult planned exists closes plan) }
 {
     match planned {
-        Ok(change) => Ok(Plan::Makes { change, exists }),
+        Ok(change) => Ok(Ok(PlannedChange { change, exists })),
         Err(why) => {
             let reply = unplanned(alloc, why, closes)?;
-            Ok(Plan::Stops(reply))
+            Ok(Err(reply))
         }
     }
 }

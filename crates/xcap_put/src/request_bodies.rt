@@ -6,6 +6,7 @@ ghost use Rattle.reply_bodies.specs.declared.conflicts.ErrorBody.TheVariants as 
 ghost use Rattle.xcap_machine.specs.Answers.{error_reply};
 ghost use Rattle.xcap_machine.specs.DocumentWrites.{PutsBody, PutsParsedBody, text_conflict};
 ghost use Rattle.xcap_machine.specs.inner.AnswerCases.{PutsParsedText};
+ghost use Rattle.xcap_put.specs.declared.request_bodies.Body.TheVariants.{Refused};
 ghost use Rattle.xcap_put.specs.inner.ReadBodies.{IsReadBody};
 
 use crate::conflicts::{conflict_reply, fault_conflict};
@@ -43,13 +44,14 @@ pub(crate) fn text_conflict(malformed: ErrorBody, fault: TextFault) -> ErrorBody
     }
 }
 
-// The reply to a text that is no document.
-fn text_refusal_reply(alloc: Global, fault: TextFault, closes: bool) -> Result<Reply, AllocError>
-    ensures fault_reply { IfOk result
-        (λ reply. reply ≡ error_reply (text_conflict conflicts.NotWellFormed fault) closes) }
+// A body that is no document.
+fn text_refusal_reply(alloc: Global, fault: TextFault, closes: bool) -> Result<Body, AllocError>
+    ensures fault_reply { IfOk result (λ body.
+        body ≡ Refused (error_reply (text_conflict conflicts.NotWellFormed fault) closes)) }
 {
     let body = text_conflict(ErrorBody::NotWellFormed, fault);
-    conflict_reply(alloc, &body, closes)
+    let reply = conflict_reply(alloc, &body, closes)?;
+    Ok(Body::Refused(reply))
 }
 
 // Checks a tree that was parsed.
@@ -83,10 +85,7 @@ fn parse_body(alloc: Global, usage: Usage, request: &Request) -> Result<Body, Al
 {
     match read_document(alloc, request.body.as_slice(), MAX_LEVELS) {
         Ok(root) => check_document(alloc, usage, root, request.closes),
-        Err(ReadError::Fault(fault)) => {
-            let reply = text_refusal_reply(alloc, fault, request.closes)?;
-            Ok(Body::Refused(reply))
-        }
+        Err(ReadError::Fault(fault)) => text_refusal_reply(alloc, fault, request.closes),
         Err(ReadError::NoMemory) => Err(AllocError),
     }
 }

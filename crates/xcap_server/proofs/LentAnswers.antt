@@ -21,7 +21,9 @@ use Rattle.request_checks.specs.declared.method.Method.TheVariants.{Get, Head, P
 use Rattle.store_core.specs.Contents.{StoreContents}
 use Rattle.xcap_machine.specs.Answers.{Answer, reply_only}
 use Rattle.xcap_machine.specs.ReadRequests.{ReadsDocument, ReadsNode}
-use Rattle.xcap_machine.specs.Requests.{AnswersByTarget, IsAnswer, ReadsTarget, auid_of, home_of}
+use Rattle.xcap_machine.specs.Requests.{AnswersByTarget, IsAnswer}
+use Rattle.xcap_machine.specs.StandardRequests.{auid_of, home_of}
+use Rattle.xcap_machine.specs.inner.AnswerCases.{ReadsTarget}
 use Rattle.xcap_machine.specs.ServerStates.{ServerState}
 use Rattle.xcap_machine.specs.inner.RecordValues.{read_request, server_state}
 use Rattle.xcap_machine.proofs.Cases.{at_false, at_true}

@@ -1,6 +1,7 @@
 pub mod DecisionAnswers
 pub mod Dispatch
 pub mod DurableServers
+pub mod HallSimulations
 pub mod KnownBytes
 pub mod LentAnswers
 pub mod LoggedServers
@@ -9,3 +10,4 @@ pub mod Redone
 pub mod ServerRestarts
 pub mod ServerStates
 pub mod Ways
+pub mod WritableNodes

@@ -6,14 +6,15 @@ use Rattle.reply_text.specs.ReplyHeads.{SentReply}
 use Rattle.edit_ops.specs.declared.edit.Edit.{Edit}
 use Rattle.xcap_io.specs.StreamStates.{StreamState}
 use Rattle.store_core.specs.State.{State}
-use Rattle.store_core.specs.Contents.{Represents}
+use Rattle.store_core.specs.Contents.{HasDocumentsOf, Represents}
 use Rattle.store_core.specs.ValidStates.{IsValidState}
-use Rattle.xcap_machine.specs.Machine.{ContentStep, ValidStep, answer_with_edit}
+use Rattle.xcap_machine.specs.Machine.{ContentStep, StandardStep, StandardStepWith, ValidStep, answer_with_edit}
 use Rattle.xcap_machine.specs.WriteEffects.{DeleteTargetIsGone, EditKeepsKeyAddresses, PutTargetExists, RepeatedPutPreservesTrees}
 use Rattle.xcap_machine.specs.SubscriberVersions.{UpdatesAllSubscribers}
 use Rattle.xcap_machine.proofs.FeedAnswers.{holds}
 use Rattle.xcap_machine.proofs.Addresses.{addresses_stay}
 use Rattle.xcap_machine.proofs.Effects.{deleted_is_gone, put_is_there, second_put_leaves}
+use Rattle.xcap_machine.proofs.StandardAnswers.{is_standard_step, standard_step}
 use Rattle.xcap_machine.proofs.Steps.{answer_closes, step_of}
 use Rattle.http_wire.specs.declared.close_reason.CloseReason.{CloseReason}
 use Rattle.http_serve.specs.declared.machine.MachineReply.{MachineReply}
@@ -47,10 +48,33 @@ follows_at root s s' m request reply edit here a =
       t.1,
     )
 
-step_at : (root : List ℕ) (s s' : ServerState) (m : State) (request : Request) (bytes : List ℕ) (edit : Option Edit) → StandsAt root s m → StepsInBytes AnswersRequest s request bytes s' edit
+pub step_at : (root : List ℕ) (s s' : ServerState) (m : State) (request : Request) (bytes : List ℕ) (edit : Option Edit) → StandsAt root s m → StepsInBytes AnswersRequest s request bytes s' edit
     → (m' : State) × StandsAt root s' m' × StepsInBytes (ValidStep root) m request bytes m' edit
 step_at root s s' m request bytes edit here a =
     let t = follows_at root s s' m request a.reply edit here a.step in (t.0, t.1, record { reply = a.reply; written = a.written; step = t.2 })
+
+-- and one of the standards' machine
+both_at : (root : List ℕ) (s s' : ServerState) (m : State) (request : Request) (bytes : List ℕ) (edit : Option Edit) → StandsAt root s m → StepsInBytes AnswersRequest s request bytes s' edit
+    → (m' : State) × StandsAt root s' m' × StepsInBytes (StandardStepWith ValidStep root) m request bytes m' edit
+both_at root s s' m request bytes edit here a =
+    let t = follows_at root s s' m request a.reply edit here a.step in
+    (t.0, t.1, record { reply = a.reply; written = a.written; step = (is_standard_step root m request a.reply t.0 edit t.2.1, t.2) })
+
+-- a server of this root, which has the documents of a state
+pub record HasDocumentsAt (root : List ℕ) (s : ServerState) (m : State) : Type 0 where
+  pub same_root : s.root ≡ root
+  pub has : HasDocumentsOf s.content m
+
+-- an answer is a step of the standards' machine
+standard_at : (root : List ℕ) (s s' : ServerState) (m : State) (request : Request) (bytes : List ℕ) (edit : Option Edit) → HasDocumentsAt root s m → StepsInBytes AnswersRequest s request bytes s' edit
+    → (m' : State) × HasDocumentsAt root s' m' × StepsInBytes (StandardStep root) m request bytes m' edit
+standard_at root s s' m request bytes edit here a =
+    let does : ContentStep root s.content request a.reply s'.content edit = subst (λ (r : List ℕ). ContentStep r s.content request a.reply s'.content edit) here.same_root a.step.does in
+    let t = standard_step root s.content s'.content m request a.reply edit does here.has in (
+      t.0,
+      record { same_root = a.step.same_root ∙ here.same_root; has = t.2 },
+      record { reply = a.reply; written = a.written; step = t.1 },
+    )
 
 -- any step of a machine with one state
 abbrev any_step : Unit {0} → Request → List ℕ → Unit {0} → Option Edit → Type 0
@@ -70,12 +94,27 @@ module _ {W : Type 0} (Keeps : List Edit → W → W → Type 0) (s now s' : Ser
       let t = line_by (StepsInBytes AnswersRequest) (StepsInBytes (ValidStep now.root)) (StandsAt now.root) (step_at now.root) Keeps ended now s' m old new watchers watchers' (record { same_root = refl; kept = kept; stands = stands }) served in
       (t.0, t.1.kept, t.1.stands, t.2)
 
-  pub port_stands : (most : ℕ) (served : ServeSummary) → ServesPort (StepsInBytes AnswersRequest) Keeps (record { most = most; served = served }) (record { machine = s; stream = old; watchers = watchers }) (record { machine = s'; stream = new; watchers = watchers' }) → (m : State) → IsValidState m → Represents now.content m
+  pub port_valid : (most : ℕ) (served : ServeSummary) → ServesPort (StepsInBytes AnswersRequest) Keeps (record { most = most; served = served }) (record { machine = s; stream = old; watchers = watchers }) (record { machine = s'; stream = new; watchers = watchers' }) → (m : State) → IsValidState m → Represents now.content m
       → (m' : State) × IsValidState m' × Represents s'.content m' × ServesPort (StepsInBytes (ValidStep now.root)) Keeps (record { most = most; served = served }) (record { machine = m; stream = old; watchers = watchers }) (record { machine = m'; stream = new; watchers = watchers' })
-  port_stands most served v m kept stands =
+  port_valid most served v m kept stands =
       let all : ServesPort (StepsInBytes AnswersRequest) Keeps (record { most = most; served = served }) (record { machine = now; stream = old; watchers = watchers }) (record { machine = s'; stream = new; watchers = watchers' }) = subst (λ (x : ServerState). ServesPort (StepsInBytes AnswersRequest) Keeps (record { most = most; served = served }) (record { machine = x; stream = old; watchers = watchers }) (record { machine = s'; stream = new; watchers = watchers' })) is v in
       let t = port_by (StepsInBytes AnswersRequest) (StepsInBytes (ValidStep now.root)) (StandsAt now.root) (step_at now.root) Keeps most served now s' m old new watchers watchers' (record { same_root = refl; kept = kept; stands = stands }) all in
       (t.0, t.1.kept, t.1.stands, t.2)
+
+  pub port_stands : (most : ℕ) (served : ServeSummary) → ServesPort (StepsInBytes AnswersRequest) Keeps (record { most = most; served = served }) (record { machine = s; stream = old; watchers = watchers }) (record { machine = s'; stream = new; watchers = watchers' }) → (m : State) → IsValidState m → Represents now.content m
+      → (m' : State) × (IsValidState m' × Represents s'.content m') × ServesPort (StepsInBytes (StandardStepWith ValidStep now.root)) Keeps (record { most = most; served = served }) (record { machine = m; stream = old; watchers = watchers }) (record { machine = m'; stream = new; watchers = watchers' })
+  port_stands most served v m kept stands =
+      let all : ServesPort (StepsInBytes AnswersRequest) Keeps (record { most = most; served = served }) (record { machine = now; stream = old; watchers = watchers }) (record { machine = s'; stream = new; watchers = watchers' }) = subst (λ (x : ServerState). ServesPort (StepsInBytes AnswersRequest) Keeps (record { most = most; served = served }) (record { machine = x; stream = old; watchers = watchers }) (record { machine = s'; stream = new; watchers = watchers' })) is v in
+      let t = port_by (StepsInBytes AnswersRequest) (StepsInBytes (StandardStepWith ValidStep now.root)) (StandsAt now.root) (both_at now.root) Keeps most served now s' m old new watchers watchers' (record { same_root = refl; kept = kept; stands = stands }) all in
+      (t.0, (t.1.kept, t.1.stands), t.2)
+
+  -- and what the machine of the standards does
+  pub line_standard : (ended : CloseReason) → ServesStream (StepsInBytes AnswersRequest) Keeps ended (record { machine = s; stream = old; watchers = watchers }) (record { machine = s'; stream = new; watchers = watchers' }) → (m : State) → HasDocumentsOf now.content m
+      → (m' : State) × HasDocumentsOf s'.content m' × ServesStream (StepsInBytes (StandardStep now.root)) Keeps ended (record { machine = m; stream = old; watchers = watchers }) (record { machine = m'; stream = new; watchers = watchers' })
+  line_standard ended v m has =
+      let served : ServesStream (StepsInBytes AnswersRequest) Keeps ended (record { machine = now; stream = old; watchers = watchers }) (record { machine = s'; stream = new; watchers = watchers' }) = subst (λ (x : ServerState). ServesStream (StepsInBytes AnswersRequest) Keeps ended (record { machine = x; stream = old; watchers = watchers }) (record { machine = s'; stream = new; watchers = watchers' })) is v in
+      let t = line_by (StepsInBytes AnswersRequest) (StepsInBytes (StandardStep now.root)) (HasDocumentsAt now.root) (standard_at now.root) Keeps ended now s' m old new watchers watchers' (record { same_root = refl; has = has }) served in
+      (t.0, t.1.has, t.2)
 
   -- and its root is as before
   pub line_root : (ended : CloseReason) → ServesStream (StepsInBytes AnswersRequest) Keeps ended (record { machine = s; stream = old; watchers = watchers }) (record { machine = s'; stream = new; watchers = watchers' }) → s'.root ≡ now.root
@@ -102,6 +141,11 @@ module _ (s now s' : ServerState) (is : s ≡ now) (request : Request) where
       → IfOk r (λ a. (m : State) → IsValidState m → Represents now.content m → (m' : State) × ValidStep now.root m request a.reply m' a.edit × Represents s'.content m')
   answered_step r = of_all (λ a. (m : State) → IsValidState m → Represents now.content m → (m' : State) × ValidStep now.root m request a.reply m' a.edit × Represents s'.content m')
       (λ a does m kept stands. step_of now.root now.content s'.content m request a.reply a.edit does kept stands) r
+
+  pub answered_standard : {E : Type 0} (r : Result (MachineReply Edit) E) → IfOk r (λ a. AnswersRequest s request a.reply s' a.edit)
+      → IfOk r (λ a. (m : State) → HasDocumentsOf now.content m → (m' : State) × StandardStep now.root m request a.reply m' a.edit × HasDocumentsOf s'.content m')
+  answered_standard r = of_all (λ a. (m : State) → HasDocumentsOf now.content m → (m' : State) × StandardStep now.root m request a.reply m' a.edit × HasDocumentsOf s'.content m')
+      (λ a does m has. standard_step now.root now.content s'.content m request a.reply a.edit does has) r
 
   pub answered_closes : {E : Type 0} (r : Result (MachineReply Edit) E) → IfOk r (λ a. AnswersRequest s request a.reply s' a.edit) → IfOk r (λ a. a.reply.closes ≡ request.closes)
   answered_closes r = of_all (λ a. a.reply.closes ≡ request.closes) (λ a does. answer_closes now.root now.content request (answer_with_edit a.reply a.edit) does.answers) r

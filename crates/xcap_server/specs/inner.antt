@@ -2,3 +2,4 @@
 pub mod DurableServers
 pub mod RecordedRequests
 pub mod ServerSteps
+pub mod WritableTargets

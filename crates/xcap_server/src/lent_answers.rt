@@ -4,7 +4,8 @@ ghost use Rattle.std.specs.Prelude.{◌≡◌, ℕ, List, IfOk};
 ghost use Rattle.request_checks.specs.Methods.{method_of};
 ghost use Rattle.request_checks.specs.declared.method.Method.TheVariants as methods;
 ghost use Rattle.xcap_get.specs.LentReplies.{LendsFoundReply, LendsIf, is_get, is_lendable};
-ghost use Rattle.xcap_machine.specs.Requests.{AnswersByTarget, ReadsTarget};
+ghost use Rattle.xcap_machine.specs.Requests.{AnswersByTarget};
+ghost use Rattle.xcap_machine.specs.inner.AnswerCases.{ReadsTarget};
 
 use crate::request_decisions::is_permitted;
 use http_wire::{LentReply, Request};
@@ -59,7 +60,7 @@ fn lend_permitted<'a>(
         (AnswersByTarget (record { root = root; content = store.now.content }) target.now
         methods.Get request.now) lent) }
 {
-    if !is_permitted(target, Method::Get, request) {
+    if !is_permitted(target, false, request) {
         return Ok(None);
     }
     lend_target(alloc, store, target, request)

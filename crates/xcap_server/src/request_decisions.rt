@@ -1,24 +1,26 @@
-// Decides a request on the stored documents (RFC 4825, section 8): the first line that applies
-// decides. Each function is one line, or calls the next. Nothing is changed here.
-ghost use Rattle.std.specs.Prelude.{◌≡◌, ◌≢◌, not, true, false, None, Some, IsOk, IsTrue, IfOk};
-ghost use Rattle.std.specs.Prelude.{MatchOption};
+// Decides a request on the stored documents (RFC 4825, section 8): by its target, its method, the
+// user's rights, and then by what is stored. Nothing is changed here.
+ghost use Rattle.std.specs.Prelude.{◌≡◌, ◌≢◌, true, false, None, Some, IsOk, IsTrue, IfOk};
+ghost use Rattle.std.specs.Prelude.{MatchResult};
 ghost use Rattle.doc_names.specs.Usages.{usage_of};
 ghost use Rattle.reply_text.specs.Statuses.{is_status};
 ghost use Rattle.reply_text.specs.ReplyHeads.{plain_reply};
 ghost use Rattle.xcap_uri.specs.Targets.{IsReadableTarget, rest_under_root};
 ghost use Rattle.request_checks.specs.Methods.{is_reading};
 ghost use Rattle.request_checks.specs.Rights.{is_allowed};
+ghost use Rattle.request_checks.specs.declared.method.Method.{Method as TheMethod};
 ghost use Rattle.request_checks.specs.declared.method.Method.TheVariants as methods;
 ghost use Rattle.store_core.specs.ValidStates.{IsUserHome};
 ghost use Rattle.xcap_machine.specs.Answers.{reply_only};
 ghost use Rattle.xcap_machine.specs.ServerStates.{ServerState};
-ghost use Rattle.xcap_machine.specs.Requests.{AnswersByMethod, AnswersByTarget, DeletesTarget};
-ghost use Rattle.xcap_machine.specs.Requests.{IsAnswer};
-ghost use Rattle.xcap_machine.specs.Requests.{IsWritableTarget, PutsTarget, auid_of, fault_status};
-ghost use Rattle.xcap_machine.specs.Requests.{home_of, allows_method, ReadsTarget};
+ghost use Rattle.xcap_machine.specs.Requests.{AnswersByTarget, IsAnswer, fault_status};
+ghost use Rattle.xcap_machine.specs.StandardRequests.{DeletesTarget, IsWritableTarget, PutsTarget};
+ghost use Rattle.xcap_machine.specs.StandardRequests.{auid_of, home_of, is_read_only};
+ghost use Rattle.xcap_machine.specs.inner.AnswerCases.{ReadsTarget};
 ghost use Rattle.xcap_put.specs.Decisions.{DecidesAnswer};
+ghost use Rattle.xcap_server.specs.inner.WritableTargets.{IsWriting, target_of, usage_to_write};
 
-use crate::targets::{allows_method, auid_of, home_of, is_read_only};
+use crate::targets::{WritableTarget, auid_of, home_of, is_read_only, writable_target};
 use doc_names::Usage;
 use element_watch::Watch;
 use http_wire::Request;
@@ -90,90 +92,113 @@ fn get_target(
     }
 }
 
-// Decides a PUT in a usage that stores documents.
+// Decides a PUT, which the user may make, in a usage that stores documents.
 fn put_target(
     alloc: Global,
     root: &Root,
     store: &mut Store,
-    target: Target,
+    target: WritableTarget,
     usage: Usage,
     request: &Request,
 ) -> Result<Decision, AllocError>
-    requires readable { IsReadableTarget target }
-    requires writable { IsWritableTarget target }
-    requires user_document { IsUserHome (home_of target) }
-    requires usage_of_doc { usage_of (auid_of target) ≡ Some usage }
-    requires method_taken { allows_method target methods.Put ≡ true }
+    requires not_read_only { is_read_only (target_of target) ≡ false }
+    requires readable { IsReadableTarget (target_of target) }
+    requires writable { IsWritableTarget (target_of target) }
+    requires user_document { IsUserHome (home_of (target_of target)) }
+    requires usage_of_doc { usage_of (auid_of (target_of target)) ≡ Some usage }
     ensures machine_decision { IfOk result
         (λ d. DecidesAnswer (PutsTarget (record { root = root.now; content = store.old.content })
-        target usage request.now) store.new d) }
+        (target_of target) usage request.now) store.new d) }
     ensures contents_unchanged { store.new.content ≡ store.old.content }
 {
     match target {
-        Target::Document(doc) => put_document(alloc, store, doc, usage, request),
-        Target::Node(doc, selector) => put_node(alloc, store, root, doc, usage, &selector, request),
-        Target::Deep(auid, home) => {
+        WritableTarget::Document(doc) => put_document(alloc, store, doc, usage, request),
+        WritableTarget::Node(doc, selector) => {
+            put_node(alloc, store, root, doc, usage, &selector, request)
+        }
+        WritableTarget::Deep(auid, home) => {
             let reply = missing_parent_reply(alloc, root, auid, &home, request)?;
             Ok(Decision::Stays(reply))
         }
-        Target::Feed { .. } | Target::ElementFeed { .. } | Target::Flat { .. } => unreachable!(),
     }
 }
 
-// Decides a DELETE in a usage that stores documents.
+// Decides a DELETE, which the user may make, in a usage that stores documents.
 fn delete_target(
     alloc: Global,
     store: &mut Store,
-    target: Target,
+    target: WritableTarget,
     usage: Usage,
     request: &Request,
 ) -> Result<Decision, AllocError>
-    requires usage_of_doc { usage_of (auid_of target) ≡ Some usage }
-    requires method_taken { allows_method target methods.Delete ≡ true }
+    requires not_read_only { is_read_only (target_of target) ≡ false }
+    requires usage_of_doc { usage_of (auid_of (target_of target)) ≡ Some usage }
     ensures machine_decision { IfOk result
-        (λ d. DecidesAnswer (DeletesTarget store.old.content target usage request.now) store.new
-        d) }
+        (λ d. DecidesAnswer
+        (DeletesTarget store.old.content (target_of target) usage request.now) store.new d) }
     ensures contents_unchanged { store.new.content ≡ store.old.content }
 {
     match target {
-        Target::Document(doc) => delete_document(alloc, store, doc, request),
-        Target::Node(doc, selector) => delete_node(alloc, store, doc, usage, &selector, request),
-        Target::Deep(_, _) => Ok(plain_decision(404, request)),
-        Target::Feed { .. } | Target::ElementFeed { .. } | Target::Flat { .. } => unreachable!(),
+        WritableTarget::Document(doc) => delete_document(alloc, store, doc, request),
+        WritableTarget::Node(doc, selector) => {
+            delete_node(alloc, store, doc, usage, &selector, request)
+        }
+        WritableTarget::Deep(_, _) => Ok(plain_decision(404, request)),
     }
 }
 
-// Decides a PUT or DELETE.
-fn decide_write(
-    alloc: Global,
-    root: &Root,
-    store: &mut Store,
-    target: Target,
-    method: Method,
-    request: &Request,
-) -> Result<Decision, AllocError>
-    requires readable { IsReadableTarget target }
-    requires writable { IsWritableTarget target }
-    requires user_document { IsUserHome (home_of target) }
-    requires writing_method { is_reading method ≡ false }
-    requires method_taken { allows_method target method ≡ true }
-    ensures machine_decision { IfOk result
-        (λ d. DecidesAnswer
-        (AnswersByMethod (record { root = root.now; content = store.old.content })
-        target method request.now) store.new d) }
-    ensures contents_unchanged { store.new.content ≡ store.old.content }
+// ---- who may do it
+
+// Whether the user may read there, or write.
+pub(crate) fn is_permitted(target: &Target, writes: bool, request: &Request) -> bool
+    ensures allowed_by_right { result
+        ≡ is_allowed writes (auid_of target.now) (home_of target.now) request.now.fields }
 {
-    let Some(usage) = auid_of(&target).stored_usage() else {
-        // Dropped by a call, whose proof is made once, rather than at each exit.
-        drop(target);
-        return Ok(plain_decision(403, request));
+    is_allowed(writes, auid_of(target), home_of(target), request)
+}
+
+// The usage of a target where the user may write, if documents of it are stored.
+fn usage_to_write(target: &Target, request: &Request) -> Option<Usage>
+    ensures exact { result ≡ usage_to_write target.now request.now }
+{
+    if !is_permitted(target, true, request) {
+        return None;
+    }
+    auid_of(target).stored_usage()
+}
+
+// What a PUT or a DELETE writes, in a usage that stores documents.
+#[derive(Drop)]
+struct WriteAccess {
+    target: WritableTarget,
+    usage: Usage,
+}
+
+// What a PUT or a DELETE of a target writes, or the reply where it may not be made.
+fn write_access(target: Target, request: &Request) -> Result<WriteAccess, Reply>
+    ensures continues_or_replies { MatchResult result
+        (λ access. (is_read_only target ≡ false) × (target_of access.target ≡ target)
+        × (usage_to_write target request.now ≡ Some access.usage))
+        (λ reply. (server : ServerState) (method : TheMethod) → IsWriting method
+        → AnswersByTarget server target method request.now (reply_only reply)) }
+{
+    let usage = usage_to_write(&target, request);
+    let Some(writable) = writable_target(target) else {
+        return Err(Reply::method(true, request.closes));
     };
-    match method {
-        Method::Put => put_target(alloc, root, store, target, usage, request),
-        Method::Delete => delete_target(alloc, store, target, usage, request),
-        Method::Get | Method::Head | Method::Other => unreachable!(),
+    match usage {
+        Some(usage) => Ok(WriteAccess {
+            target: writable,
+            usage,
+        }),
+        None => {
+            drop(writable);
+            Err(Reply::fixed(403, request.closes))
+        }
     }
 }
+
+// ---- all in order
 
 // Decides a GET or HEAD.
 fn decide_read(
@@ -187,67 +212,57 @@ fn decide_read(
     requires reading_method { is_reading method ≡ true }
     ensures machine_decision { IfOk result
         (λ d. DecidesAnswer
-        (AnswersByMethod (record { root = root.now; content = store.old.content })
+        (AnswersByTarget (record { root = root.now; content = store.old.content })
         target.now method request.now) store.new d) }
     ensures contents_unchanged { store.new.content ≡ store.old.content }
 {
+    if !is_permitted(target, false, request) {
+        return Ok(plain_decision(403, request));
+    }
     let reply = get_target(alloc, root, store, target, method, request)?;
     Ok(Decision::Stays(reply))
 }
 
-fn decide_method(
+// Decides a PUT.
+fn decide_put(
     alloc: Global,
     root: &Root,
     store: &mut Store,
     target: Target,
-    method: Method,
     request: &Request,
 ) -> Result<Decision, AllocError>
     requires readable { IsReadableTarget target }
     requires writable { IsWritableTarget target }
-    requires user_document { is_reading method ≡ false → IsUserHome (home_of target) }
-    requires method_taken { allows_method target method ≡ true }
     ensures machine_decision { IfOk result
         (λ d. DecidesAnswer
-        (AnswersByMethod (record { root = root.now; content = store.old.content })
-        target method request.now) store.new d) }
+        (AnswersByTarget (record { root = root.now; content = store.old.content })
+        target methods.Put request.now) store.new d) }
     ensures contents_unchanged { store.new.content ≡ store.old.content }
 {
-    if method.reads() {
-        let decision = decide_read(alloc, root, store, &target, method, request);
-        drop(target);
-        return decision;
+    match write_access(target, request) {
+        Ok(access) => put_target(alloc, root, store, access.target, access.usage, request),
+        Err(reply) => Ok(Decision::Stays(reply)),
     }
-    decide_write(alloc, root, store, target, method, request)
 }
 
-// ---- all in order
-
-pub(crate) fn is_permitted(target: &Target, method: Method, request: &Request) -> bool
-    ensures allowed_by_right { result
-        ≡ is_allowed (not (is_reading method)) (auid_of target.now)
-        (home_of target.now) request.now.fields }
+// Decides a DELETE.
+fn decide_delete(
+    alloc: Global,
+    root: &Root,
+    store: &mut Store,
+    target: Target,
+    request: &Request,
+) -> Result<Decision, AllocError>
+    ensures machine_decision { IfOk result
+        (λ d. DecidesAnswer
+        (AnswersByTarget (record { root = root.now; content = store.old.content })
+        target methods.Delete request.now) store.new d) }
+    ensures contents_unchanged { store.new.content ≡ store.old.content }
 {
-    is_allowed(!method.reads(), auid_of(target), home_of(target), request)
-}
-
-// The reply where the target doesn't allow the method, or the user isn't allowed to use it; None
-// where the request continues.
-fn access_refusal(target: &Target, method: Method, request: &Request) -> Option<Reply>
-    ensures continues_or_replies { MatchOption result
-        ((allows_method target.now method ≡ true)
-        × (is_allowed (not (is_reading method)) (auid_of target.now)
-        (home_of target.now) request.now.fields ≡ true))
-        (λ reply. (server : ServerState)
-        → AnswersByTarget server target.now method request.now (reply_only reply)) }
-{
-    if !allows_method(target, method) {
-        return Some(Reply::method(is_read_only(target), request.closes));
+    match write_access(target, request) {
+        Ok(access) => delete_target(alloc, store, access.target, access.usage, request),
+        Err(reply) => Ok(Decision::Stays(reply)),
     }
-    if !is_permitted(target, method, request) {
-        return Some(Reply::fixed(403, request.closes));
-    }
-    None
 }
 
 fn decide_target(
@@ -266,12 +281,19 @@ fn decide_target(
         target method request.now) store.new d) }
     ensures contents_unchanged { store.new.content ≡ store.old.content }
 {
-    match access_refusal(&target, method, request) {
-        Some(reply) => {
+    match method {
+        Method::Get | Method::Head => {
+            let decision = decide_read(alloc, root, store, &target, method, request);
+            drop(target);
+            decision
+        }
+        Method::Put => decide_put(alloc, root, store, target, request),
+        Method::Delete => decide_delete(alloc, root, store, target, request),
+        Method::Other => {
+            let reply = Reply::method(is_read_only(&target), request.closes);
             drop(target);
             Ok(Decision::Stays(reply))
         }
-        None => decide_method(alloc, root, store, target, method, request),
     }
 }
 

@@ -2,19 +2,20 @@
 ghost use Rattle.std.specs.Prelude.{◌≡◌, ◌≤◌, [], None, IsOk, IfOk, OnErr};
 ghost use Rattle.xcap_uri.specs.Targets.{rest_under_root};
 ghost use Rattle.store_core.specs.State.{State};
-ghost use Rattle.store_core.specs.Contents.{Represents};
+ghost use Rattle.store_core.specs.Contents.{HasDocumentsOf, Represents};
 ghost use Rattle.store_core.specs.ValidStates.{IsValidState};
 ghost use Rattle.xcap_machine.specs.WriteEffects.{DeleteTargetIsGone, EditKeepsKeyAddresses};
 ghost use Rattle.xcap_machine.specs.WriteEffects.{PutTargetExists};
 ghost use Rattle.xcap_machine.specs.WriteEffects.{RepeatedPutPreservesTrees};
-ghost use Rattle.xcap_machine.specs.Machine.{ValidStep};
+ghost use Rattle.xcap_machine.specs.Machine.{StandardStep, ValidStep};
 ghost use Rattle.xcap_machine.specs.SubscriberVersions.{UpdatesAllSubscribers};
-ghost use Rattle.http_serve.specs.ServedStreams.{ServesStream};
 ghost use Rattle.http_serve.specs.ServedPorts.{ServesPort};
+ghost use Rattle.http_serve.specs.ServedStreams.{ServesStream};
 ghost use Rattle.http_serve.specs.ReplyBytes.{StepsInBytes};
 ghost use Rattle.xcap_get.specs.LentReplies.{LendsFoundReply};
 
 use crate::service::Service;
+use crate::standard_server::StandardServer;
 use edit_ops::Edit;
 use http_serve::{
     CloseReason, ConnectionBuffers, MachineReply, ServeSummary, serve_stream, serve_streams,
@@ -82,9 +83,11 @@ impl Server {
     }
 }
 
-/// Answers a request (RFC 4825, section 8). After a PUT that made a change, its address selects
-/// exactly what its body is parsed as, and the same request, made again, if it has no condition
-/// fields, leaves every tree unchanged and gets 200, or 507 where no number is left for a change.
+/// Answers a request as the standards say (RFC 4825, section 8; `standard_step`), and one for this
+/// server's own targets as `machine_step` says. After a PUT that made a change, its address
+/// selects exactly what its body is parsed as, and the same request, made again, if it has no
+/// condition fields, leaves every tree unchanged and gets 200, or 507 where no number is left for
+/// a change.
 /// After a DELETE that made a change, its address selects nothing. A change preserves what key
 /// addresses select, where it moves it, except for keys that it writes itself. A subscriber with a
 /// version of a document that applies the diff document of the feed since its tag then has exactly
@@ -93,6 +96,11 @@ impl Server {
 /// # Errors
 /// `AllocError` when out of memory; the server is then as before.
 pub fn answer(server: &mut Server, request: &Request) -> Result<MachineReply<Edit>, AllocError>
+    ensures standard_step { IfOk result
+        (λ answered. (m : State) → HasDocumentsOf server.old.content m
+        → (next : State)
+        × StandardStep server.old.root m request.now answered.reply next answered.edit
+        × HasDocumentsOf server.new.content next) }
     ensures machine_step { IfOk result
         (λ answered. (m : State) → IsValidState m → Represents server.old.content m
         → (next : State) × ValidStep server.old.root m request.now answered.reply next answered.edit
@@ -139,12 +147,19 @@ pub fn answer_reading<'a>(
 /// change, and the reply is written, in this order, until a reply closes the connection, its bytes
 /// end, or a read or a write fails. Bytes that are no request get their fixed reply, and a request
 /// for which memory runs out gets the fixed 503; both close. After a read that failed there is no
-/// further reply. Does not allocate before the first request. Every state on the way is valid.
+/// further reply. Does not allocate before the first request. The answers are as the standards say
+/// (`standard_session`), also those for this server's own targets are the machine's, and every
+/// state on the way is valid (`machine_session`).
 pub fn serve_connection<L: Source + Sink, W: Watchers<Edit>>(
     server: &mut Server,
     line: &mut L,
     watchers: &mut W,
 ) -> CloseReason
+    ensures standard_session { (m : State) → HasDocumentsOf server.old.content m
+        → (next : State) × HasDocumentsOf server.new.content next
+        × ServesStream (StepsInBytes (StandardStep server.old.root)) W.keeps result
+        (record { machine = m; stream = L.state line.old; watchers = watchers.old })
+        (record { machine = next; stream = L.state line.new; watchers = watchers.new }) }
     ensures machine_session { (m : State) → IsValidState m → Represents server.old.content m
         → (next : State) × IsValidState next × Represents server.new.content next
         × ServesStream (StepsInBytes (ValidStep server.old.root)) W.keeps result
@@ -178,4 +193,26 @@ pub fn serve_port<P: Port, W: Watchers<Edit>>(
         count,
         watchers,
     )
+}
+
+impl StandardServer for Server {
+    ghost use Rattle.store_core.specs.Contents.{Represents};
+    ghost use Rattle.store_core.specs.ValidStates.{IsValidState};
+    ghost use Rattle.xcap_machine.specs.Machine.{ValidStep};
+
+    ghost root = { λ server. server.root };
+
+    ghost represents = { λ server m. IsValidState m × Represents server.content m };
+
+    // every state on the way is valid
+    ghost own_step = { ValidStep };
+
+    fn serve_port<P: Port, W: Watchers<Edit>>(
+        &mut self,
+        port: &mut P,
+        count: u64,
+        watchers: &mut W,
+    ) -> ServeSummary {
+        serve_streams(&mut self.service, &mut self.buffers, port, count, watchers)
+    }
 }

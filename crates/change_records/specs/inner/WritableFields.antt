@@ -3,9 +3,9 @@ use Rattle.std.specs.Prelude.{◌<◌, ◌^◌, Bool, length, IfSome, is_some}
 use Rattle.http_wire.specs.declared.request.Field.{Field}
 use Rattle.change_records.specs.ReadFields.{read_field_of}
 
--- where the field is kept, its value fits a block
-abbrev pub IsWritable : Field → Type 0
-IsWritable field = IfSome (read_field_of field.name) (λ _. length field.value < 2 ^ 32)
+-- the field is not kept, or its value fits a block
+abbrev pub FitsBlockIfKept : Field → Type 0
+FitsBlockIfKept field = IfSome (read_field_of field.name) (λ _. length field.value < 2 ^ 32)
 
 -- the field is kept
 abbrev pub is_kept : Field → Bool

@@ -88,8 +88,8 @@ pub data PassesBytes (old : SeatState) (new : Option SeatState)
       })
       → PassesBytes old new connection connection'
 
--- The same in a hall, where nothing else changes. The connection was reported ready so often, once
--- or never; where it was, a read or a write was tried or it was closed, or there was a failure.
+-- The same in a hall, where nothing else changes. The connection was reported ready once or never;
+-- where it was, a read or a write was tried or it was closed, or there was a failure.
 pub record PassesInHall (ready failures : ℕ) (old : SeatState) (new : Option SeatState)
     (hall hall' : HallState) : Type 0 where
   pub connection : ConnectionState
@@ -121,7 +121,7 @@ pub record SeatServer (M W : Type 0) : Type 0 where
   pub seat : SeatState
   pub watchers : W
 
--- likewise a place, where there may be no seat
+-- what a place is served with, where there may be no seat
 pub record PlaceServer (M W : Type 0) : Type 0 where
   pub machine : M
   pub seat : Option SeatState

@@ -1,6 +1,6 @@
 -- How far the next item was read, and what is held then.
 use Rattle.std.specs.Prelude.{◌≡◌, ℕ, ◌+◌, ◌<◌, ◌≤◌, Bool, true, false, List, [], ◌++◌, length}
-use Rattle.std.specs.Prelude.{take, drop, Result, Ok, Err, if◌then◌else◌}
+use Rattle.std.specs.Prelude.{take, drop, Ok, if◌then◌else◌}
 use Rattle.httparse.specs.declared.spans.HeaderSpan.{HeaderSpan}
 use Rattle.httparse.specs.declared.spans.RequestSpans.{RequestSpans}
 use Rattle.http_wire.specs.declared.framing.Framing.TheVariants.{Length, Chunked}
@@ -74,21 +74,14 @@ AnswersStep before given (Item asked) bytes decoding = IsDecided before given fa
 AnswersStep before given (Open place) bytes decoding =
     IsWaiting given × HoldsBytes place bytes decoding given × (length bytes < MAX_HELD_BYTES)
 
--- when out of memory nothing was decided, and the place is the same
-abbrev pub MayAnswerStep : {E : Type 0} → ℕ → List ℕ → ReadPlace → Result ReadStep E → List ℕ
-    → Decoding → Type 0
-MayAnswerStep before given place (Ok step) bytes decoding =
-    AnswersStep before given step bytes decoding
-MayAnswerStep before given place (Err _) bytes decoding = HoldsBytes place bytes decoding given
-
--- The parts of a feed agree: the buffers hold what was given and not used yet; the last request of
--- a connection spends it, and a spent one holds nothing.
+-- The parts of a feed agree with what its reader is: the buffers hold what was given and not used
+-- yet; the last request of a connection spends it, and a spent one holds nothing.
 pub record ArePartsOfFeed (place : ReadPlace) (held : ReadBufferState) (chunks : ChunkDataState)
-    (given : List ℕ)
-    (requests : ℕ) (spent : Bool) : Type 0 where
-  pub holds : HoldsBytes place held.bytes chunks.decoding given
-  pub fewer : spent ≡ false → requests < MAX_REQUESTS
-  pub none : spent ≡ true → (given ≡ []) × (held ≡ no_bytes) × (chunks.capacity ≡ 0)
+    (reader : RequestReaderState) : Type 0 where
+  pub holds : HoldsBytes place held.bytes chunks.decoding reader.held
+  pub fewer : reader.spent ≡ false → reader.requests < MAX_REQUESTS
+  pub none : reader.spent ≡ true
+      → (reader.held ≡ []) × (held ≡ no_bytes) × (chunks.capacity ≡ 0)
 
 -- a request that doesn't close isn't the last one that a connection may have
 abbrev pub LeavesRequests : ℕ → Asked → Type 0

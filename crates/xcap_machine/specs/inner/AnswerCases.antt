@@ -26,16 +26,32 @@ use Rattle.reply_bodies.specs.declared.conflicts.ErrorBody.TheVariants as confli
 use Rattle.reply_text.specs.ReplyHeads.{SentReply, plain_reply}
 use Rattle.http_wire.specs.declared.request.Request.{Request}
 use Rattle.request_checks.specs.Methods.{method_of}
+use Rattle.request_checks.specs.declared.method.Method.{Method}
 use Rattle.xcap_uri.specs.declared.fault.UriFault.{UriFault}
 use Rattle.xcap_uri.specs.declared.target.Target.{Target}
 use Rattle.xcap_machine.specs.Answers.{Answer, AppliesConditions, reply_only, error_reply}
 use Rattle.xcap_machine.specs.NodeWrites.{RemovesNode, NodeWrite, PutsByEditTarget, node_exists}
 use Rattle.xcap_machine.specs.NodeWrites.{planned_put_answer}
 use Rattle.xcap_machine.specs.NodeWrites.{value_conflict}
-use Rattle.xcap_machine.specs.Requests.{AnswersByTarget, fault_status}
+use Rattle.xcap_machine.specs.ReadRequests.{ReadRequest}
+use Rattle.xcap_machine.specs.Requests.{AnswersByTarget, ReadsOwn, fault_status}
+use Rattle.xcap_machine.specs.StandardRequests as standard
 use Rattle.xcap_machine.specs.ServerStates.{ServerState}
 use Rattle.xcap_machine.specs.DocumentWrites.{change_answer, delete_reply, fault_conflict}
 use Rattle.xcap_machine.specs.DocumentWrites.{missing_parent_answer, refusal_reply, text_conflict}
+
+-- ---- by the target, with this server's own ones
+
+abbrev pub ReadsTarget : ServerState → Target → ReadRequest → Answer → Type 0
+ReadsTarget server target get a = standard.ReadsTarget ReadsOwn server target get a
+
+abbrev pub AnswersByMethod : ServerState → Target → Method → Request → Answer → Type 0
+AnswersByMethod server target method request a =
+    standard.AnswersByMethod ReadsOwn server target method request a
+
+abbrev pub AnswersByUser : ServerState → Target → Method → Request → Answer → Type 0
+AnswersByUser server target method request a =
+    standard.AnswersByUser ReadsOwn server target method request a
 
 -- by its target, which is read already
 abbrev pub IsAnswerByTarget : List ℕ → StoreContents → Result Target UriFault → Request → Answer

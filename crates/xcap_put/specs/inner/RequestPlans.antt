@@ -12,13 +12,13 @@ use Rattle.edit_rules.specs.declared.spot.Spot.{Spot}
 use Rattle.edit_rules.specs.declared.spot.Spot.TheVariants.{Over, Under, Beside, Value}
 use Rattle.node_select.specs.declared.selector.Selector.{Selector}
 use Rattle.http_wire.specs.declared.request.Request.{Request}
+use Rattle.reply_text.specs.ReplyHeads.{SentReply}
 use Rattle.store_core.specs.ChangePreconditions.{MayRequest}
 use Rattle.store_core.specs.Contents.{StoreContents}
 use Rattle.xcap_machine.specs.Answers.{Answer, reply_only}
 use Rattle.xcap_machine.specs.NodeWrites.{RemovesNode, node_exists, plan_refusal_reply}
 use Rattle.xcap_machine.specs.DocumentWrites.{change_answer, put_reply}
-use Rattle.xcap_put.specs.declared.plan.Plan.{Plan}
-use Rattle.xcap_put.specs.declared.plan.Plan.TheVariants.{Stops, Makes}
+use Rattle.xcap_put.specs.declared.plan.PlannedChange.{PlannedChange}
 
 -- ---- the element of an edit target
 
@@ -31,6 +31,10 @@ SpotExists t (Value p) = IsSome (at p t)
 
 -- ---- plans
 
+-- the change that the store is asked for, or the reply without a change
+abbrev pub Plan : Type 0
+Plan = Result PlannedChange SentReply
+
 -- a change of a document that is stored with this tree: one that leaves a document of the usage,
 -- if it isn't too long
 pub record IsValidChange (usage : Usage) (t : Tree) (change : Change) : Type 0 where
@@ -38,19 +42,19 @@ pub record IsValidChange (usage : Usage) (t : Tree) (change : Change) : Type 0 w
   pub faultless : HasFirstFault usage (edited t change) None
 
 abbrev pub HasValidChange : Usage → Tree → Plan → Type 0
-HasValidChange usage t (Stops reply) = Unit {0}
-HasValidChange usage t (Makes change exists) = IsValidChange usage t change
+HasValidChange usage t (Err reply) = Unit {0}
+HasValidChange usage t (Ok planned) = IsValidChange usage t planned.change
 
 -- the store may be asked for the plan's change
 abbrev pub AsksForPlan : StoreContents → DocId → Plan → Type 0
-AsksForPlan c id (Stops reply) = Unit {0}
-AsksForPlan c id (Makes change exists) = MayRequest c id change
+AsksForPlan c id (Err reply) = Unit {0}
+AsksForPlan c id (Ok planned) = MayRequest c id planned.change
 
 -- the answer on these contents: the reply alone, or the store's answer to the change
 abbrev pub answer_of_plan : StoreContents → DocId → Bool → Plan → Answer
-answer_of_plan c id closes (Stops reply) = reply_only reply
-answer_of_plan c id closes (Makes change exists) =
-    change_answer c id change closes (put_reply exists closes)
+answer_of_plan c id closes (Err reply) = reply_only reply
+answer_of_plan c id closes (Ok planned) =
+    change_answer c id planned.change closes (put_reply planned.exists closes)
 
 -- whatever the contents are, the plan's answer is of this kind
 pub record IsPlanFor (usage : Usage) (t : Tree) (id : DocId) (closes : Bool)
@@ -60,8 +64,9 @@ pub record IsPlanFor (usage : Usage) (t : Tree) (id : DocId) (closes : Bool)
 
 -- the plan is the planned change, or the reply for the reason why there is none
 abbrev pub IsPlanFromResult : Result Change EditRefusal → Bool → Bool → Plan → Type 0
-IsPlanFromResult (Ok change) exists closes plan = plan ≡ Makes change exists
-IsPlanFromResult (Err why) exists closes plan = plan ≡ Stops (plan_refusal_reply why closes)
+IsPlanFromResult (Ok change) exists closes plan =
+    plan ≡ Ok (record { change = change; exists = exists })
+IsPlanFromResult (Err why) exists closes plan = plan ≡ Err (plan_refusal_reply why closes)
 
 -- the plan of a DELETE of what the selector finds, before the conditions are tested; there is none
 -- where nothing is found

@@ -1,10 +1,10 @@
-use Rattle.std.proofs.Common.{◌≡◌, ◌+◌, ◌-◌, ◌*◌, ◌≤◌, ap, arith}
-use Rattle.std.proofs.lemmas.Bool.{ltb-true}
+use Rattle.std.proofs.Common.{◌≡◌, ◌+◌, ◌-◌, ◌*◌, ◌≤◌, length, refl, ap, arith}
+use Rattle.std.proofs.lemmas.Bool.{lt-ltb, ltb-true}
 use Rattle.http_serve.specs.ReplyBytes.{StepsInBytes}
 use Rattle.http_serve.proofs.Rooms.{takes_less}
 use Rattle.hall_serve.specs.Seats.{requests_left}
 use Rattle.hall_serve.specs.ServedHalls.{begun_in, faults_in, memory_failures_in}
-use Rattle.hall_serve.proofs.TurnSums.{count_more, no_count, no_turn, room_after, room_at_first, turns_more}
+use Rattle.hall_serve.proofs.TurnSums.{count_more, no_count, no_turn, room_after, room_at_first, turn_made, turns_more}
 use Rattle.hall_serve.proofs.serve.serve_hall.Goals.{in-Went, in-Began, in-NoMemory}
 use Rattle.hall_serve.proofs.serve.serve_hall.Goals as goal
 
@@ -13,6 +13,7 @@ turns-init g c = record {
   seats_match = c.requires.seats_match;
   serves_on = no_turn (StepsInBytes g.M.Machine.steps) g.W.Watchers.keeps (record { machine = c.args.machine.now; hall = g.H.Hall.state c.args.hall.now; seats = c.args.seats.now; watchers = c.args.watchers.now }) (g.met.W.Watchers.none _);
   counts = no_count (g.H.Hall.state c.args.hall.now);
+  chain = refl;
   within = omega arith;
   failures = omega arith;
   room = room_at_first g.M.Machine.takes c.args.machine.now _ _ c.requires.room_left;
@@ -45,7 +46,9 @@ turns-preserved g c =
     record {
       seats_match = c.make_turn.ensures.seats_match;
       serves_on = turns_more (StepsInBytes g.M.Machine.steps) g.W.Watchers.keeps g.met.W.Watchers.more c.turns.memory_failures t c.match-make_turn.memory_failures fails _ _ _ i.serves_on c.make_turn.ensures.serves_on;
-      counts = count_more c.turns.connections c.turns._turn c.match-make_turn.connections t whole more _ _ _ i.counts c.make_turn.ensures.counts;
+      counts = count_more c.turns.connections c.turns._turn c.match-make_turn.connections t whole more _ _ _ _ i.counts c.make_turn.ensures.counts;
+      chain = turn_made g.W.Watchers.keeps (length (g.H.Hall.state c.args.hall.now).connections) c.args.count c.turns.connections c.turns._turn _ _ _ c.make_turn.result _ (ltb-true c.turns.connections c.args.count) (lt-ltb c.turns.connections c.args.count) c.turns.invariant.chain c.turns.invariant.counts.begun
+          c.make_turn.ensures.seats_match c.make_turn.ensures.notified_first c.make_turn.ensures.in_order c.make_turn.ensures.counts;
       within = within;
       failures = elim c.match-make_turn.branch [
         | in-Went w ↦ let same = w.memory_failures-is in let b = i.failures in omega (arith, same, b)
@@ -74,3 +77,17 @@ pub returns-in-HallFailed-clause-room_left : goal.returns-in-HallFailed-clause-r
 returns-in-HallFailed-clause-room_left g c =
     let none : c.turns.connections ≡ c.turns.connections + begun_in c.make_turn.result = let e = ap begun_in c.in-HallFailed.is in omega (arith, e) in
     room_after g.M.Machine.takes _ _ _ _ c.args.count c.turns.connections c.turns.connections (begun_in c.make_turn.result) none c.turns.invariant.within c.make_turn.ensures.takes_on c.turns.invariant.room
+
+pub returns-in-Over-clause-turns : goal.returns-in-Over-clause-turns
+returns-in-Over-clause-turns g c = (
+  c.turns._turn + 1,
+  turn_made g.W.Watchers.keeps (length (g.H.Hall.state c.args.hall.now).connections) c.args.count c.turns.connections c.turns._turn _ _ _ c.make_turn.result _ (ltb-true c.turns.connections c.args.count) (lt-ltb c.turns.connections c.args.count) c.turns.invariant.chain c.turns.invariant.counts.begun
+      c.make_turn.ensures.seats_match c.make_turn.ensures.notified_first c.make_turn.ensures.in_order c.make_turn.ensures.counts,
+)
+
+pub returns-in-HallFailed-clause-turns : goal.returns-in-HallFailed-clause-turns
+returns-in-HallFailed-clause-turns g c = (
+  c.turns._turn + 1,
+  turn_made g.W.Watchers.keeps (length (g.H.Hall.state c.args.hall.now).connections) c.args.count c.turns.connections c.turns._turn _ _ _ c.make_turn.result _ (ltb-true c.turns.connections c.args.count) (lt-ltb c.turns.connections c.args.count) c.turns.invariant.chain c.turns.invariant.counts.begun
+      c.make_turn.ensures.seats_match c.make_turn.ensures.notified_first c.make_turn.ensures.in_order c.make_turn.ensures.counts,
+)

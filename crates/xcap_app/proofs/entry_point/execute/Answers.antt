@@ -40,11 +40,11 @@ returns-in-Keep g c = record {
 pub returns-in-Serve : goal.returns-in-Serve
 returns-in-Serve g c = record {
   runs_command =
-      ran_as g.W.Watchers.keeps c.args.command.now (Serve c.in-Serve.address c.in-Serve.root c.in-Serve.count) c.serve.result _ _ _ _ _ _ _ _ _ _ c.in-Serve.is (
-        subst (λ (address : List ℕ). ServesCommand g.W.Watchers.keeps (record { address = address; root = c.in-Serve.root; count = c.in-Serve.count }) c.serve.result
+      ran_as g.W.Watchers.keeps c.args.command.now (Serve c.in-Serve.address c.in-Serve.root c.in-Serve.count) c.run_serve.result _ _ _ _ _ _ _ _ _ _ c.in-Serve.is (
+        subst (λ (address : List ℕ). ServesCommand g.W.Watchers.keeps (record { address = address; root = c.in-Serve.root; count = c.in-Serve.count }) c.run_serve.result
             (record { port = g.P.Line.state c.args.port.now; output = g.O.Line.state c.args.output.now; watchers = c.args.watchers.now })
-            (record { port = g.P.Line.state c.serve.new.port; output = g.O.Line.state c.serve.new.output; watchers = c.serve.new.watchers }))
-            c.as_str.ensures.utf8_bytes c.serve.ensures.serves_command,
+            (record { port = g.P.Line.state c.run_serve.new.port; output = g.O.Line.state c.run_serve.new.output; watchers = c.run_serve.new.watchers }))
+            c.as_str.ensures.utf8_bytes c.run_serve.ensures.serves_command,
         refl,
         refl,
       );

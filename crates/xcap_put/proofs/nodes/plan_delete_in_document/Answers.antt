@@ -1,8 +1,7 @@
 use Rattle.std.proofs.Common.{Option, Some, Ok, true, refl, subst}
 use Rattle.xcap_machine.specs.NodeWrites.{RemovesNode}
 use Rattle.xcap_machine.specs.inner.RecordValues.{node_write}
-use Rattle.xcap_put.specs.inner.RequestPlans.{IsRemovalPlan}
-use Rattle.xcap_put.specs.declared.plan.Plan.{Plan}
+use Rattle.xcap_put.specs.inner.RequestPlans.{IsRemovalPlan, Plan}
 use Rattle.xcap_put.proofs.NodeRequests.{plan_unstopped, there}
 use Rattle.xcap_put.proofs.nodes.plan_delete_in_document.Goals as goal
 

@@ -1,5 +1,8 @@
-use Rattle.xcap_server.proofs.ServerStates.{answered_addresses, answered_closes, answered_delete, answered_feed, answered_put, answered_second, answered_step}
+use Rattle.xcap_server.proofs.ServerStates.{answered_addresses, answered_closes, answered_delete, answered_feed, answered_put, answered_second, answered_standard, answered_step}
 use Rattle.xcap_server.proofs.server.answer.Goals as goal
+
+pub returns-clause-standard_step : goal.returns-clause-standard_step
+returns-clause-standard_step c = answered_standard c.server.inside.service c.args.server.now c.respond.new.self c.server.view_is c.args.request.now c.respond.result c.respond.ensures.machine_reply
 
 pub returns-clause-machine_step : goal.returns-clause-machine_step
 returns-clause-machine_step c = answered_step c.server.inside.service c.args.server.now c.respond.new.self c.server.view_is c.args.request.now c.respond.result c.respond.ensures.machine_reply

@@ -7,7 +7,7 @@ use Rattle.http_feed.proofs.chunk_data.ChunkData.read_byte.Goals as goal
 
 pub invariant_of-self : goal.invariant_of-self
 invariant_of-self c =
-    let count = length c.self.inside.data.items in
+    let count = length c.self.inside.bytes.items in
     let size : c.len.result ≡ count = search rules in
     let states : c.self.inside.state ≡ c.args.self.now.decoding.stage = ap (λ (d : ChunkDataState). d.decoding.stage) c.self.view_is in
     let fits = fits_next c.self.inside.state count c.args.byte c.self.invariant (ap expects_data states ∙ c.requires.not_data) in

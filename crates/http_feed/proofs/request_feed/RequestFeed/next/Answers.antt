@@ -9,4 +9,4 @@ invariant_of-self-in-Item c =
     ap (λ (h : ConnectionHistory). h.now.given) c.record_read.ensures.given_is_logged
     ∙ ap (λ (h : ConnectionHistory). h.now.given ++ c.bytes.result.now) c.record_begin.ensures.next_is_logged
     ∙ c.bytes.ensures.exact in
-    at_next c.read_on.new.held c.clear.new.self _ c.self.inside.requests c.self.inside.spent same c.if-self.false (c.self.invariant.fewer c.if-self.false)
+    at_next c.read_item.new.held c.clear.new.self _ c.self.inside.requests c.self.inside.spent same c.if-self.false (c.self.invariant.fewer c.if-self.false)

@@ -10,6 +10,6 @@ invariant_of-self g c =
     let self = c.args.self.now in
     let closed = kept_closed self.numbers.items self.begun self.log.state c.args.id self.kept c.requires.open in
     record {
-      kept = subst (λ (hall : HallState). HoldsBetweenCalls c.free_place-2.new.places.items self.begun hall) (sym c.with_call-self.ensures.call_is_logged)
-          (subst (λ (numbers : List (Option ℕ)). HoldsBetweenCalls numbers self.begun (hall_after_close c.args.id.number self.log.state)) (sym c.free_place-2.ensures.frees) closed);
+      kept = subst (λ (hall : HallState). HoldsBetweenCalls c.free_place.new.places.items self.begun hall) (sym c.with_call-self.ensures.call_is_logged)
+          (subst (λ (numbers : List (Option ℕ)). HoldsBetweenCalls numbers self.begun (hall_after_close c.args.id.number self.log.state)) (sym c.free_place.ensures.frees) closed);
     }

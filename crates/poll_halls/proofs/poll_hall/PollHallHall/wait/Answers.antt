@@ -9,5 +9,5 @@ invariant_of-self g c =
     let self = c.args.self.now in
     record {
       kept = subst (λ (hall : HallState). HoldsBetweenCalls c.next_event-result.new.self.numbers.items c.next_event-result.new.self.begun hall) (sym c.with_call-self.ensures.call_is_logged)
-          (kept_wait c.next_event-result.new.self.numbers.items c.next_event-result.new.self.begun c.next_event-result.new.self.log.state c.next_event-result.result c.next_event-result.new.self.kept);
+          (kept_wait c.next_event-result.new.self.numbers.items c.next_event-result.new.self.begun c.next_event-result.new.self.log.state c.args.takes_more c.next_event-result.result c.next_event-result.new.self.kept);
     }

@@ -1,5 +1,5 @@
 use Rattle.http_feed.proofs.ReadPlaces.{or_not}
-use Rattle.http_feed.proofs.item_reader.read_on.Goals as goal
+use Rattle.http_feed.proofs.item_reader.read_item.Goals as goal
 
 pub returns-in-Chunks-clause-answers : goal.returns-in-Chunks-clause-answers
 returns-in-Chunks-clause-answers c = λ given holds.

@@ -1,0 +1,59 @@
+//! The server over a hall: many connections that are open at once.
+ghost use Rattle.std.specs.Prelude.{◌≡◌, ◌+◌, ◌≤◌, List, length};
+ghost use Rattle.hall_serve.specs.Exchanges.{Exchange};
+ghost use Rattle.hall_serve.specs.Seats.{MatchesSeats};
+ghost use Rattle.hall_serve.specs.ServedHalls.{AnswersKnocks, HasHallStop, HasServed, ServesOn};
+ghost use Rattle.http_serve.specs.ReplyBytes.{StepsInBytes};
+ghost use Rattle.store_core.specs.Contents.{Represents};
+ghost use Rattle.store_core.specs.ValidStates.{IsValidState};
+ghost use Rattle.store_core.specs.State.{State};
+ghost use Rattle.xcap_machine.specs.Machine.{ValidStep};
+
+use crate::server::Server;
+use edit_ops::Edit;
+use hall_serve::{HallSummary, Seats};
+use halls::Hall;
+use watchers::Watchers;
+
+/// Serves the connections of a hall, of which at most `count` more begin, in at most `turns` turns.
+/// There is one order of all requests on all connections, in which the machine of the root comes
+/// from each valid state to the next; watchers are notified of each change before a byte of its
+/// reply is written; and no connection waits for another. Bytes that are no request get their fixed
+/// reply, and a request for which memory runs out gets the fixed 503; both close.
+pub fn serve_hall<H: Hall, W: Watchers<Edit>>(
+    server: &mut Server,
+    hall: &mut H,
+    seats: &mut Seats,
+    count: u64,
+    turns: u64,
+    watchers: &mut W,
+) -> HallSummary
+    requires seats_match { MatchesSeats (H.state hall.old) seats.old }
+    ensures machine_session { (m : State) (all : List (Exchange Edit)) → IsValidState m
+        → Represents server.old.content m → HasServed (H.state hall.old) seats.old all
+        → (next : State) × IsValidState next × Represents server.new.content next
+        × (server.new.root ≡ server.old.root)
+        × ServesOn (StepsInBytes (ValidStep server.old.root)) W.keeps all result.memory_failures
+        (record {
+          machine = m;
+          hall = H.state hall.old;
+          seats = seats.old;
+          watchers = watchers.old;
+        })
+        (record {
+          machine = next;
+          hall = H.state hall.new;
+          seats = seats.new;
+          watchers = watchers.new;
+        }) }
+    ensures seats_match { MatchesSeats (H.state hall.new) seats.new }
+    ensures at_most { result.connections ≤ count }
+    ensures knocks { AnswersKnocks (H.state hall.old) (H.state hall.new) }
+    ensures connections { length (H.state hall.new).connections
+        ≡ length (H.state hall.old).connections + result.connections }
+    ensures stop { HasHallStop result.stop count result.connections turns (H.state hall.old)
+        (H.state hall.new) }
+    ensures same_listening { (H.state hall.new).listening ≡ (H.state hall.old).listening }
+{
+    hall_serve::serve_hall(&mut server.service, hall, watchers, seats, count, turns)
+}
