@@ -57,6 +57,7 @@ class Run:
     is_served: bool = False
     only_in_memory: str = ""
     connections: List[Exchange] = dataclasses.field(default_factory=list)
+    moves: List[str] = dataclasses.field(default_factory=list)
     peers: List[Exchange] = dataclasses.field(default_factory=list)
     texts: dict = dataclasses.field(default_factory=dict)
     place: str = ""
@@ -123,6 +124,8 @@ class Paragraph:
         self.inherited = set(self.given)
         for line in lines:
             self.take_line(line)
+        if self.run.moves and not self.run.only_in_memory:
+            raise Refused(f"{self.place}: moves are made in memory alone")
         self.run.texts = {key: self.text(key) for key in TEXTS}
         return self.in_ranges()
 
@@ -161,6 +164,8 @@ class Paragraph:
             self.take_exchange(key)
         elif key == "served":
             self.run.is_served = True
+        elif key == "move":
+            self.run.moves.append(value)
         elif key in RESETS:
             setattr(self.latest(), RESETS[key], int(value))
         else:

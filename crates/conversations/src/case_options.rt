@@ -1,5 +1,7 @@
 //! How a case is run.
+use crate::hall_moves::parse_move;
 use anyhow::{Result, bail};
+use halls::Move;
 use std::alloc::{AllocError, Global};
 
 /// How a case is run once, as README.md says.
@@ -10,6 +12,8 @@ pub struct CaseOptions {
     pub repeat: usize,
     /// The number of connections that come.
     pub connections: usize,
+    /// The moves of the hall to which they come, where the command is `host`.
+    pub moves: Vec<Move>,
     /// The number of connections that a peer accepts.
     pub peers: usize,
 }
@@ -21,8 +25,14 @@ impl CaseOptions {
             status: 0,
             repeat: 1,
             connections: 0,
+            moves: Vec::new(alloc),
             peers: 0,
         })
+    }
+
+    /// Whether the command is `host`.
+    pub fn is_host(&self) -> bool {
+        self.words.as_str().starts_with("host ")
     }
 
     fn set(&mut self, alloc: Global, key: &str, value: &str) -> Result<()> {
@@ -32,6 +42,7 @@ impl CaseOptions {
             "status" => self.status = value.parse()?,
             "repeat" => self.repeat = value.parse()?,
             "connection" => self.connections = self.connections.saturating_add(1),
+            "move" => self.moves.push(parse_move(value)?)?,
             "peer" => self.peers = self.peers.saturating_add(1),
             _ => bail!("no such line: {key}"),
         }

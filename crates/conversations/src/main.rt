@@ -8,6 +8,7 @@
 
 mod case_files;
 mod case_options;
+mod hall_moves;
 mod run;
 mod shared_stream;
 mod streams;

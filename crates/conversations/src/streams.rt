@@ -1,7 +1,10 @@
-//! The streams of a run.
+//! The streams and the hall of a run.
+ghost use Rattle.std.specs.Prelude.{◌≡◌, [], IfOk};
+
 use crate::case_files::read_case_file;
 use crate::case_options::CaseOptions;
 use anyhow::Result;
+use halls::{Client, Hall, MemHall};
 use std::alloc::{AllocError, Global};
 use xcap_io::{MemPeer, MemPort, MemStream};
 
@@ -73,12 +76,54 @@ fn numbered_streams(
     Ok(lines)
 }
 
+// How many connections come to the port, rather than to the hall.
+fn port_connections(options: &CaseOptions) -> usize {
+    if options.is_host() {
+        return 0;
+    }
+    options.connections
+}
+
+// Adds the client with a number, from 0.
+fn push_client(
+    rt: &HostRuntime,
+    clients: &mut Vec<Client>,
+    name: &str,
+    index: usize,
+) -> Result<()> {
+    let ending = format!(in rt.alloc(); "{}.in", index as u128 + 1)?;
+    let bytes = read_case_file(rt, name, ending.as_str())?;
+    clients.push(Client::new(rt.alloc(), bytes))?;
+    Ok(())
+}
+
+// The clients of a hall.
+fn hall_clients(rt: &HostRuntime, name: &str, options: &CaseOptions) -> Result<Vec<Client>> {
+    let mut clients = Vec::new(rt.alloc());
+    if options.is_host() {
+        for index in 0..options.connections {
+            push_client(rt, &mut clients, name, index)?;
+        }
+    }
+    Ok(clients)
+}
+
+/// The hall to which the connections of a run come, where its command is `host`.
+pub fn hall_of_run(rt: &HostRuntime, name: &str, options: &CaseOptions) -> Result<MemHall>
+    ensures no_connections { IfOk result
+        (λ hall. (⟦<MemHall as Hall>⟧.state hall).connections ≡ []) }
+{
+    let clients = hall_clients(rt, name, options)?;
+    let moves = options.moves.to_vec(rt.alloc())?;
+    Ok(MemHall::new(clients, moves))
+}
+
 impl Lines {
     /// The streams of a run whose bytes come in pieces of this size.
     pub fn new(rt: &HostRuntime, name: &str, options: &CaseOptions, size: usize) -> Result<Lines> {
         Ok(Lines {
             port: MemPort::new(
-                numbered_streams(rt, name, "", options.connections, size)?,
+                numbered_streams(rt, name, "", port_connections(options), size)?,
                 false,
                 None,
             ),

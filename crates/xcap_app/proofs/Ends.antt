@@ -1,5 +1,5 @@
 -- How a command ends, by what it did.
-use Rattle.std.proofs.Common.{◌≡◌, ℕ, List, [], Option, None, Some, Result, Ok, Err, ◌⊎◌, inl, inr, refl, sym, subst, arith, ⊎_elim}
+use Rattle.std.proofs.Common.{◌≡◌, ℕ, List, [], Option, None, Result, Ok, Err, ◌⊎◌, inl, inr, refl, sym, subst, arith, ⊎_elim}
 use Rattle.xcap_io.proofs.TrafficSums.{gave_none}
 use Rattle.tree_text.specs.Faults.{IsTextResult}
 use Rattle.xml_names.specs.ReadErrors.{ResultSatisfies}
@@ -8,6 +8,7 @@ use Rattle.xml_names.specs.declared.read_error.ReadError.TheVariants as errors
 use Rattle.tree_text.specs.declared.fault.TextFault.{TextFault}
 use Rattle.doc_names.specs.declared.usages.Usage.{Usage as TheUsage}
 use Rattle.edit_ops.specs.declared.edit.Edit.{Edit}
+use Rattle.std.specs.Option.{option_map_or}
 use Rattle.xml_tree.specs.Tree.{Tree}
 use Rattle.xcap_io.specs.StreamStates.{StreamState, CountRises}
 use Rattle.xcap_io.specs.StreamTraffic.{TakesBytes}
@@ -22,15 +23,19 @@ use Rattle.xcap_app.specs.ReplayCommand.{ReplaysCommand}
 use Rattle.xcap_app.specs.ServeCommand.{ServesCommand, ServiceArguments}
 use Rattle.xcap_app.specs.Exits.{HasAllocatedMessage}
 use Rattle.xcap_app.specs.KeepCommand.{KeepsCommand, EndsKeep, OldJournal, exit_of_restart, keeps_on, no_journal, no_server}
-use Rattle.xcap_app.specs.CommandRuns.{RunsCommand, service_arguments}
-use Rattle.xcap_app.specs.RunStates.{IoStreams, KeepState, ReplayState, RunState, ServeState, ServiceState, call_part, io_part, keep_part, keep_service_state, put_part, replay_part, serve_part}
+use Rattle.xcap_app.specs.CommandRuns.{RunsCommand, host_arguments, service_arguments}
+use Rattle.xcap_app.specs.HostCommand.{HostArguments, HostsCommand}
+use Rattle.halls.specs.HallState.{HallState}
+use Rattle.xcap_app.specs.RunStates.{HostState, IoStreams, KeepState, ReplayState, RunState, ServeState, ServiceState, call_part, host_part, io_part, keep_part, keep_service_state, put_part, replay_part, serve_part}
 use Rattle.xcap_app.specs.SampleCommand.{RunsSample}
 use Rattle.xcap_app.specs.ErrorMessages.{IsReportedAs}
 use Rattle.xcap_app.specs.TextVerdicts.{IsTreeVerdict, IsTextVerdict, refusal_of_text}
 use Rattle.xcap_app.specs.declared.command.Command.{Command}
-use Rattle.xcap_app.specs.declared.command.Command.TheVariants.{Replay, Serve, Keep, Check, Sample, Fetch, Put, Delete, Follow}
+use Rattle.xcap_app.specs.declared.command.Command.TheVariants.{Replay, Serve, Keep, Host, Check, Sample, Fetch, Put, Delete, Follow}
+use Rattle.xcap_app.specs.declared.command_line.CommandLine.{CommandLine}
+use Rattle.xcap_app.specs.declared.command_line.CommandLine.TheVariants.{Runs, BadHost, Unknown}
 use Rattle.xcap_app.specs.declared.exit.Exit.{Exit}
-use Rattle.xcap_app.specs.declared.exit.Exit.TheVariants.{Done, Usage, InputFailed, OutputFailed, NetworkFailed, Refused, Client, BadJournal, OutOfMemory}
+use Rattle.xcap_app.specs.declared.exit.Exit.TheVariants.{Done, Usage, InputFailed, OutputFailed, NetworkFailed, Refused, Client, BadJournal, BadHostWords, OutOfMemory}
 use Rattle.xcap_app.specs.declared.refusal.Refusal.{Refusal}
 use Rattle.xcap_app.specs.declared.refusal.Refusal.TheVariants.{TooLarge, NotUtf8, NotWellFormed, Faulty}
 
@@ -73,23 +78,32 @@ follow_lacking arguments exit old new is (follows doc means runs) =
 follow_lacking arguments exit old new is (means_none none usage nothing) = absurd (subst HasAllocatedMessage usage is)
 follow_lacking arguments exit old new is (knows_nothing ends nothing) = knows_nothing refl nothing
 
-module _ {W : Type 0} (Keeps : List Edit → W → W → Type 0) where
-  abbrev state_of : StreamState → StreamState → StreamState → StreamState → W → RunState W
-  state_of port peer input output w = record { port = port; peer = peer; input = input; output = output; watchers = w }
+module _ {W : Type 0} (Keeps : List Edit → W → W → Type 0) (first : ℕ) where
+  abbrev state_of : StreamState → HallState → StreamState → StreamState → StreamState → StreamState → W → RunState W
+  state_of port hall peer input output errors w = record { port = port; hall = hall; peer = peer; input = input; output = output; errors = errors; watchers = w }
 
   -- memory ran out before anything was done
-  pub ran_out : (command : Option Command) (port peer input output : StreamState) (w : W) → RunsCommand Keeps command OutOfMemory (state_of port peer input output w) (state_of port peer input output w)
-  ran_out None port peer input output w = (inr refl, refl)
-  ran_out (Some (Replay root)) port peer input output w = (refl, refl, refl)
-  ran_out (Some (Serve address root count)) port peer input output w = (refl, refl, refl)
-  ran_out (Some (Keep address root count)) port peer input output w = (no_server refl refl, refl)
-  ran_out (Some (Check usage)) port peer input output w =
-      ((([], record { consumed = gave_none input.inward; counts = refl; reads = reads_none input }, omega arith), refl), refl, refl, refl)
-  ran_out (Some (Sample requests)) port peer input output w = (refl, refl, refl, refl, refl)
-  ran_out (Some (Fetch requester path)) port peer input output w = (lacks_memory (refl, refl) refl, refl, refl, refl)
-  ran_out (Some (Put requester path media)) port peer input output w = (lacks_memory (refl, (refl, refl)) refl, refl, refl)
-  ran_out (Some (Delete requester path)) port peer input output w = (lacks_memory (refl, refl) refl, refl, refl, refl)
-  ran_out (Some (Follow requester document rounds)) port peer input output w = (knows_nothing refl (refl, refl), refl, refl, refl)
+  pub ran_out : (command : CommandLine) (port : StreamState) (hall : HallState) (peer input output errors : StreamState) (w : W) → RunsCommand Keeps first command OutOfMemory (state_of port hall peer input output errors w) (state_of port hall peer input output errors w)
+  ran_out Unknown port hall peer input output errors w = (inr refl, refl)
+  ran_out (BadHost fault) port hall peer input output errors w = (inr refl, refl)
+  ran_out (Runs (Host address root options)) port hall peer input output errors w = (refl, refl, refl, refl, refl)
+  ran_out (Runs (Replay root)) port hall peer input output errors w = (refl, refl, refl, refl, refl)
+  ran_out (Runs (Serve address root count)) port hall peer input output errors w = (refl, refl, refl, refl, refl)
+  ran_out (Runs (Keep address root count)) port hall peer input output errors w = (no_server refl refl, refl, refl, refl)
+  ran_out (Runs (Check usage)) port hall peer input output errors w =
+      ((([], record { consumed = gave_none input.inward; counts = refl; reads = reads_none input }, omega arith), refl), refl, refl, refl, refl, refl)
+  ran_out (Runs (Sample requests)) port hall peer input output errors w = (refl, refl, refl, refl, refl, refl, refl)
+  ran_out (Runs (Fetch requester path)) port hall peer input output errors w = (lacks_memory (refl, refl) refl, refl, refl, refl, refl, refl)
+  ran_out (Runs (Put requester path media)) port hall peer input output errors w = (lacks_memory (refl, (refl, refl)) refl, refl, refl, refl, refl)
+  ran_out (Runs (Delete requester path)) port hall peer input output errors w = (lacks_memory (refl, refl) refl, refl, refl, refl, refl, refl)
+  ran_out (Runs (Follow requester document rounds)) port hall peer input output errors w = (knows_nothing refl (refl, refl), refl, refl, refl, refl, refl)
+
+  -- there are no words, since memory ran out for them
+  pub ran_none : {A : Type 0} (parse : A → CommandLine) (words : Option A) (told : Exit) (s : RunState W) → words ≡ None → IsReportedAs OutOfMemory told
+      → RunsCommand Keeps first (option_map_or parse words Unknown) told s s
+  ran_none {A} parse words told s none (inl out) =
+      subst (λ (w : Option A). RunsCommand Keeps first (option_map_or parse w Unknown) told s s) (sym none) (inr out, refl)
+  ran_none parse words told s none (inr lacking) = absurd lacking.0
 
   -- an input that was refused, where memory ran out for the message
   refused_out : (usage : TheUsage) (refusal : Refusal) (input input' : StreamState) → ExaminesInput usage (Refused refusal) input input' → ExaminesInput usage OutOfMemory input input'
@@ -108,6 +122,7 @@ module _ {W : Type 0} (Keeps : List Edit → W → W → Type 0) where
   never_on IsWritten HasFailed arguments (Refused refusal) journal old new is k = absurd k
   never_on IsWritten HasFailed arguments (Client fault) journal old new is k = absurd k
   never_on IsWritten HasFailed arguments (BadJournal refusal) journal old new is k = absurd k
+  never_on IsWritten HasFailed arguments (BadHostWords fault) journal old new is k = absurd k
   never_on IsWritten HasFailed arguments OutOfMemory journal old new is k = absurd is
 
   unkept : (arguments : ServiceArguments) (exit : Exit) (old new : KeepState W) → HasAllocatedMessage exit → KeepsCommand Keeps arguments exit old new → KeepsCommand Keeps arguments OutOfMemory old new
@@ -125,6 +140,7 @@ module _ {W : Type 0} (Keeps : List Edit → W → W → Type 0) where
   check_refused usage (Refused refusal) old new is r = (refused_out usage refusal old.input new.input r.0, r.1)
   check_refused usage (Client fault) old new is r = absurd r
   check_refused usage (BadJournal refusal) old new is r = absurd r
+  check_refused usage (BadHostWords fault) old new is r = absurd r
   check_refused usage OutOfMemory old new is r = r
 
   sample_refused : (requests : ℕ) (exit : Exit) (output output' : StreamState) → HasAllocatedMessage exit → RunsSample requests exit output output' → ⊥
@@ -136,6 +152,7 @@ module _ {W : Type 0} (Keeps : List Edit → W → W → Type 0) where
   sample_refused requests (Refused refusal) output output' is r = r
   sample_refused requests (Client fault) output output' is r = r
   sample_refused requests (BadJournal refusal) output output' is r = r
+  sample_refused requests (BadHostWords fault) output output' is r = r
   sample_refused requests OutOfMemory output output' is r = is
 
   replay_refused : (root : List ℕ) (exit : Exit) (old new : ReplayState W) → HasAllocatedMessage exit → ReplaysCommand Keeps root exit old new → ⊥
@@ -147,6 +164,7 @@ module _ {W : Type 0} (Keeps : List Edit → W → W → Type 0) where
   replay_refused root (Refused refusal) old new is r = r
   replay_refused root (Client fault) old new is r = r
   replay_refused root (BadJournal refusal) old new is r = r
+  replay_refused root (BadHostWords fault) old new is r = r
   replay_refused root OutOfMemory old new is r = is
 
   serve_refused : (arguments : ServiceArguments) (exit : Exit) (old new : ServeState W) → HasAllocatedMessage exit → ServesCommand Keeps arguments exit old new → ⊥
@@ -158,40 +176,55 @@ module _ {W : Type 0} (Keeps : List Edit → W → W → Type 0) where
   serve_refused arguments (Refused refusal) old new is r = r
   serve_refused arguments (Client fault) old new is r = r
   serve_refused arguments (BadJournal refusal) old new is r = r
+  serve_refused arguments (BadHostWords fault) old new is r = r
   serve_refused arguments OutOfMemory old new is r = is
+
+  host_refused : (arguments : HostArguments) (exit : Exit) (old new : HostState W) → HasAllocatedMessage exit → HostsCommand Keeps arguments exit old new → ⊥
+  host_refused arguments Done old new is r = is
+  host_refused arguments Usage old new is r = is
+  host_refused arguments InputFailed old new is r = is
+  host_refused arguments OutputFailed old new is r = is
+  host_refused arguments NetworkFailed old new is r = is
+  host_refused arguments (Refused refusal) old new is r = r
+  host_refused arguments (Client fault) old new is r = r
+  host_refused arguments (BadJournal refusal) old new is r = r
+  host_refused arguments (BadHostWords fault) old new is r = r
+  host_refused arguments OutOfMemory old new is r = is
 
   unspelled_refused : (exit : Exit) → HasAllocatedMessage exit → (exit ≡ Usage) ⊎ (exit ≡ OutOfMemory) → ⊥
   unspelled_refused exit is (inl usage) = subst HasAllocatedMessage usage is
   unspelled_refused exit is (inr out) = subst HasAllocatedMessage out is
 
-  ran_refused : (command : Option Command) (exit : Exit) (old new : RunState W) → HasAllocatedMessage exit → RunsCommand Keeps command exit old new → RunsCommand Keeps command OutOfMemory old new
-  ran_refused None exit old new is r = absurd (unspelled_refused exit is r.0)
-  ran_refused (Some (Replay root)) exit old new is r = absurd (replay_refused root exit (replay_part old) (replay_part new) is r.0)
-  ran_refused (Some (Serve address root count)) exit old new is r =
+  ran_refused : (command : CommandLine) (exit : Exit) (old new : RunState W) → HasAllocatedMessage exit → RunsCommand Keeps first command exit old new → RunsCommand Keeps first command OutOfMemory old new
+  ran_refused Unknown exit old new is r = absurd (unspelled_refused exit is r.0)
+  ran_refused (BadHost fault) exit old new is r = (inr refl, r.1)
+  ran_refused (Runs (Host address root options)) exit old new is r = absurd (host_refused (host_arguments address root options first) exit (host_part old) (host_part new) is r.0)
+  ran_refused (Runs (Replay root)) exit old new is r = absurd (replay_refused root exit (replay_part old) (replay_part new) is r.0)
+  ran_refused (Runs (Serve address root count)) exit old new is r =
       absurd (serve_refused (service_arguments address root count) exit (serve_part old) (serve_part new) is r.0)
-  ran_refused (Some (Keep address root count)) exit old new is r =
-      (unkept (service_arguments address root count) exit (keep_part old) (keep_part new) is r.0, r.1)
-  ran_refused (Some (Check usage)) exit old new is r = (check_refused usage exit (io_part old) (io_part new) is r.0, r.1, r.2, r.3)
-  ran_refused (Some (Sample requests)) exit old new is r = absurd (sample_refused requests exit old.output new.output is r.0)
-  ran_refused (Some (Fetch requester path)) exit old new is r = (call_lacking (fetch_call requester path) exit (call_part old) (call_part new) is r.0, r.1, r.2, r.3)
-  ran_refused (Some (Put requester path media)) exit old new is r =
-      (put_lacking (record { requester = requester; path = path; media = media }) exit (put_part old) (put_part new) is r.0, r.1, r.2)
-  ran_refused (Some (Delete requester path)) exit old new is r = (call_lacking (delete_call requester path) exit (call_part old) (call_part new) is r.0, r.1, r.2, r.3)
-  ran_refused (Some (Follow requester document rounds)) exit old new is r =
-      (follow_lacking (record { requester = requester; document = document; rounds = rounds }) exit (call_part old) (call_part new) is r.0, r.1, r.2, r.3)
+  ran_refused (Runs (Keep address root count)) exit old new is r =
+      (unkept (service_arguments address root count) exit (keep_part old) (keep_part new) is r.0, r.1, r.2, r.3)
+  ran_refused (Runs (Check usage)) exit old new is r = (check_refused usage exit (io_part old) (io_part new) is r.0, r.1, r.2, r.3, r.4, r.5)
+  ran_refused (Runs (Sample requests)) exit old new is r = absurd (sample_refused requests exit old.output new.output is r.0)
+  ran_refused (Runs (Fetch requester path)) exit old new is r = (call_lacking (fetch_call requester path) exit (call_part old) (call_part new) is r.0, r.1, r.2, r.3, r.4, r.5)
+  ran_refused (Runs (Put requester path media)) exit old new is r =
+      (put_lacking (record { requester = requester; path = path; media = media }) exit (put_part old) (put_part new) is r.0, r.1, r.2, r.3, r.4)
+  ran_refused (Runs (Delete requester path)) exit old new is r = (call_lacking (delete_call requester path) exit (call_part old) (call_part new) is r.0, r.1, r.2, r.3, r.4, r.5)
+  ran_refused (Runs (Follow requester document rounds)) exit old new is r =
+      (follow_lacking (record { requester = requester; document = document; rounds = rounds }) exit (call_part old) (call_part new) is r.0, r.1, r.2, r.3, r.4, r.5)
 
-  told_of : (command : Option Command) (exit told : Exit) (old new : RunState W) → IsReportedAs exit told → RunsCommand Keeps command exit old new → RunsCommand Keeps command told old new
+  told_of : (command : CommandLine) (exit told : Exit) (old new : RunState W) → IsReportedAs exit told → RunsCommand Keeps first command exit old new → RunsCommand Keeps first command told old new
   told_of command exit told old new is r = ⊎_elim
-      (λ (e : told ≡ exit). subst (λ x. RunsCommand Keeps command x old new) (sym e) r)
-      (λ (k : HasAllocatedMessage exit × (told ≡ OutOfMemory)). subst (λ x. RunsCommand Keeps command x old new) (sym k.1) (ran_refused command exit old new k.0 r))
+      (λ (e : told ≡ exit). subst (λ x. RunsCommand Keeps first command x old new) (sym e) r)
+      (λ (k : HasAllocatedMessage exit × (told ≡ OutOfMemory)). subst (λ x. RunsCommand Keeps first command x old new) (sym k.1) (ran_refused command exit old new k.0 r))
       is
 
-  pub ran_told : (command : Option Command) (exit told : Exit) (port port' peer peer' input input' output output' : StreamState) (w w' : W) → IsReportedAs exit told
-      → RunsCommand Keeps command exit (state_of port peer input output w) (state_of port' peer' input' output' w') → RunsCommand Keeps command told (state_of port peer input output w) (state_of port' peer' input' output' w')
-  ran_told command exit told port port' peer peer' input input' output output' w w' is r = told_of command exit told (state_of port peer input output w) (state_of port' peer' input' output' w') is r
+  pub ran_told : (command : CommandLine) (exit told : Exit) (port port' : StreamState) (hall hall' : HallState) (peer peer' input input' output output' errors errors' : StreamState) (w w' : W) → IsReportedAs exit told
+      → RunsCommand Keeps first command exit (state_of port hall peer input output errors w) (state_of port' hall' peer' input' output' errors' w') → RunsCommand Keeps first command told (state_of port hall peer input output errors w) (state_of port' hall' peer' input' output' errors' w')
+  ran_told command exit told port port' hall hall' peer peer' input input' output output' errors errors' w w' is r = told_of command exit told (state_of port hall peer input output errors w) (state_of port' hall' peer' input' output' errors' w') is r
 
   -- a command equal to this one
-  pub ran_as : (command same : Command) (exit : Exit) (port port' peer peer' input input' output output' : StreamState) (w w' : W) → command ≡ same
-      → RunsCommand Keeps (Some same) exit (state_of port peer input output w) (state_of port' peer' input' output' w') → RunsCommand Keeps (Some command) exit (state_of port peer input output w) (state_of port' peer' input' output' w')
-  ran_as command same exit port port' peer peer' input input' output output' w w' is r =
-      subst (λ (k : Command). RunsCommand Keeps (Some k) exit (state_of port peer input output w) (state_of port' peer' input' output' w')) (sym is) r
+  pub ran_as : (command same : Command) (exit : Exit) (port port' : StreamState) (hall hall' : HallState) (peer peer' input input' output output' errors errors' : StreamState) (w w' : W) → command ≡ same
+      → RunsCommand Keeps first (Runs same) exit (state_of port hall peer input output errors w) (state_of port' hall' peer' input' output' errors' w') → RunsCommand Keeps first (Runs command) exit (state_of port hall peer input output errors w) (state_of port' hall' peer' input' output' errors' w')
+  ran_as command same exit port port' hall hall' peer peer' input input' output output' errors errors' w w' is r =
+      subst (λ (k : Command). RunsCommand Keeps first (Runs k) exit (state_of port hall peer input output errors w) (state_of port' hall' peer' input' output' errors' w')) (sym is) r

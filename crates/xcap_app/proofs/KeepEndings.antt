@@ -34,7 +34,7 @@ use Rattle.xcap_app.specs.KeepCommand.{FailsToReadJournal, EndsKeep, KeepSummary
 use Rattle.xcap_app.specs.RunStates.{ServiceState}
 use Rattle.xcap_app.specs.ServeCommand.{IsCompleteStop, ServiceArguments}
 use Rattle.xcap_app.specs.declared.exit.Exit.{Exit}
-use Rattle.xcap_app.specs.declared.exit.Exit.TheVariants.{Done, Usage, InputFailed, OutputFailed, NetworkFailed, Refused, Client, BadJournal, OutOfMemory}
+use Rattle.xcap_app.specs.declared.exit.Exit.TheVariants.{Done, Usage, InputFailed, OutputFailed, NetworkFailed, Refused, Client, BadJournal, BadHostWords, OutOfMemory}
 use Rattle.xcap_app.specs.inner.JournalOutputs.{UsesOnlyJournal}
 use Rattle.xcap_app.proofs.Streams.{adds_some, wrote}
 
@@ -210,6 +210,7 @@ module _ {W : Type 0} (Keeps : List Edit → W → W → Type 0) (P Q : List ℕ
   keeps_so (Refused refusal) k = k
   keeps_so (Client fault) k = k
   keeps_so (BadJournal refusal) k = k
+  keeps_so (BadHostWords fault) k = k
   keeps_so OutOfMemory k = k
 
 -- ---- a log without a torn record

@@ -1,5 +1,6 @@
 pub mod Documents
 pub mod Ends
+pub mod HostEndings
 pub mod KeepEndings
 pub mod KnownConnections
 pub mod Pairs

@@ -1,5 +1,5 @@
 -- What a run that ended with 0 did, without any traffic before.
-use Rattle.std.proofs.Common.{◌≡◌, ℕ, List, [], ◌++◌, inl, inr, ⊎_elim, Option, None, Some, refl, sym, ap, subst, ◌∙◌, arith, append-nil}
+use Rattle.std.proofs.Common.{◌≡◌, ℕ, List, [], ◌++◌, inl, inr, ⊎_elim, None, refl, sym, ap, subst, ◌∙◌, arith, append-nil}
 use Rattle.std.specs.Prelude.{codes, length}
 use Rattle.edit_ops.specs.declared.edit.Edit.{Edit}
 use Rattle.store_core.specs.State.{first_state}
@@ -33,16 +33,20 @@ use Rattle.edit_journal.specs.JournalTexts.{HasCompleteRecords, journal_text}
 use Rattle.edit_journal.specs.declared.journal_restart.RestartFault.{RestartFault}
 use Rattle.edit_journal.specs.declared.journal_restart.RestartFault.TheVariants as restart_faults
 use Rattle.edit_journal.specs.LoggedMachines.{LoggedStep}
-use Rattle.xcap_app.specs.CommandRuns.{RunsCommand, service_arguments}
-use Rattle.xcap_app.specs.RunStates.{RunState, call_part, keep_part, put_part, replay_part, serve_part}
+use Rattle.xcap_app.specs.CommandRuns.{RunsCommand, host_arguments, service_arguments}
+use Rattle.xcap_app.specs.HostCommand.{HostArguments, HostsCommand}
+use Rattle.halls.specs.HallState.{HallState}
+use Rattle.xcap_app.specs.RunStates.{RunState, call_part, host_part, keep_part, put_part, replay_part, serve_part}
 use Rattle.xcap_app.specs.ServeCommand.{IsCompleteStop, ServiceArguments, served_line, ServesCommand as Serves}
-use Rattle.xcap_app.specs.SystemRuns.{AnswersAllConnections, AnswersInput, AnswersAfterJournal, FollowsNamedDocument, DoesCommand}
+use Rattle.xcap_app.specs.SystemRuns.{AnswersAllConnections, AnswersHall, AnswersInput, AnswersAfterJournal, FollowsNamedDocument, DoesCommand}
 use Rattle.xcap_app.specs.TextVerdicts.{IsTextVerdict}
 use Rattle.xcap_app.specs.SampleCommand.{summary_text}
-use Rattle.xcap_app.specs.declared.command.Command.{Command}
-use Rattle.xcap_app.specs.declared.command.Command.TheVariants.{Replay, Serve, Keep, Check, Sample, Fetch, Put, Delete, Follow}
+use Rattle.xcap_app.specs.declared.command.Command.TheVariants.{Replay, Serve, Keep, Host, Check, Sample, Fetch, Put, Delete, Follow}
+use Rattle.xcap_app.specs.declared.command_line.CommandLine.{CommandLine}
+use Rattle.xcap_app.specs.declared.command_line.CommandLine.TheVariants.{Runs, BadHost, Unknown}
+use Rattle.xcap_app.specs.declared.host_options.HostFault.{HostFault}
 use Rattle.xcap_app.specs.declared.exit.Exit.{Exit}
-use Rattle.xcap_app.specs.declared.exit.Exit.TheVariants.{Done, Usage, InputFailed, OutputFailed, NetworkFailed, Refused, Client, BadJournal, OutOfMemory}
+use Rattle.xcap_app.specs.declared.exit.Exit.TheVariants.{Done, Usage, InputFailed, OutputFailed, NetworkFailed, Refused, Client, BadJournal, BadHostWords, OutOfMemory}
 
 -- no fault of a call has the status 0
 never_zero : (fault : FollowerFault) → status_of_fault fault ≡ 0 → ⊥
@@ -65,6 +69,7 @@ is_done NetworkFailed zero = absurd (omega arith)
 is_done (Refused refusal) zero = absurd (omega arith)
 is_done (Client fault) zero = absurd (never_zero fault zero)
 is_done (BadJournal refusal) zero = absurd (omega arith)
+is_done (BadHostWords fault) zero = absurd (omega arith)
 is_done OutOfMemory zero = absurd (omega arith)
 
 -- the bytes taken by an output that had taken nothing
@@ -98,6 +103,9 @@ command_done Did Nothing exit done (lacks_memory nothing is) = absurd (never_out
 
 never_usage : Done ≡ Usage → ⊥
 never_usage is = cc
+
+never_bad_host : (fault : HostFault) → Done ≡ BadHostWords fault → ⊥
+never_bad_host fault is = cc
 
 call_done : (call : CommandCall) (old new : CallStreams) → RunsCall call Done old new → MakesOneCall call ends.Done old new
 call_done call old new runs = command_done (λ ended. MakesOneCall call ended old new) (AsksNothing old new) Done refl runs
@@ -159,6 +167,15 @@ module _ {W : Type 0} (Keeps : List Edit → W → W → Type 0) where
             ∙ ap served_line counted,
       )
 
+  -- the run with another stream for errors
+  abbrev with_errors : RunState W → StreamState → RunState W
+  with_errors state errors = record state { errors = errors }
+
+  hall_done : (arguments : HostArguments) (old new : RunState W) → HostsCommand Keeps arguments Done (host_part old) (host_part new) → AnswersHall Keeps arguments.first arguments.root old new
+  hall_done arguments old new (served, hosts, complete) =
+      let v = hosts.serves in
+      record { state = hosts.state; kept = hosts.kept; exchanges = v.more; steps = v.steps; each = v.served.each; notified = v.kept }
+
   never_done : (fault : RestartFault) {X : Type 0} → IsReportedAs (exit_of_restart fault) Done → X
   never_done fault (inl same) = not_done fault (sym same)
     where
@@ -206,33 +223,37 @@ module _ {W : Type 0} (Keeps : List Edit → W → W → Type 0) where
         notified = v.kept;
       }
 
-  by_command : (command : Option Command) (old new : RunState W) → old.port.port.begun ≡ no_connections → old.input.inward.given ≡ [] → old.output.taken ≡ [] → new.port.port.to_come ≡ None
-      → RunsCommand Keeps command Done old new → DoesCommand Keeps command old new
-  by_command None old new none_yet none_given none_taken untold r = ⊎_elim never_usage never_out r.0
-  by_command (Some (Replay root)) old new none_yet none_given none_taken untold r = input_done root old new none_given none_taken r.0
-  by_command (Some (Serve address root count)) old new none_yet none_given none_taken untold r = port_done (service_arguments address root count) old new none_yet none_taken untold r.0
-  by_command (Some (Keep address root count)) old new none_yet none_given none_taken untold r = kept_done (service_arguments address root count) old new none_yet none_given none_taken untold r.0
-  by_command (Some (Check usage)) old new none_yet none_given none_taken untold r =
+  by_command : (first : ℕ) (command : CommandLine) (old new : RunState W) (errors' : StreamState) → old.port.port.begun ≡ no_connections → old.input.inward.given ≡ [] → old.output.taken ≡ [] → new.port.port.to_come ≡ None
+      → RunsCommand Keeps first command Done old new → DoesCommand Keeps first command old (with_errors new errors')
+  by_command first Unknown old new errors' none_yet none_given none_taken untold r = ⊎_elim never_usage never_out r.0
+  by_command first (BadHost fault) old new errors' none_yet none_given none_taken untold r = ⊎_elim (never_bad_host fault) never_out r.0
+  by_command first (Runs (Host address root options)) old new errors' none_yet none_given none_taken untold r =
+      let a = hall_done (host_arguments address root options first) old new r.0 in
+      record { state = a.state; kept = a.kept; exchanges = a.exchanges; steps = a.steps; each = a.each; notified = a.notified }
+  by_command first (Runs (Replay root)) old new errors' none_yet none_given none_taken untold r = input_done root old (with_errors new errors') none_given none_taken r.0
+  by_command first (Runs (Serve address root count)) old new errors' none_yet none_given none_taken untold r = port_done (service_arguments address root count) old (with_errors new errors') none_yet none_taken untold r.0
+  by_command first (Runs (Keep address root count)) old new errors' none_yet none_given none_taken untold r = kept_done (service_arguments address root count) old (with_errors new errors') none_yet none_given none_taken untold r.0
+  by_command first (Runs (Check usage)) old new errors' none_yet none_given none_taken untold r =
       let judged = r.0.0 in (
         subst (λ (journal_text : List ℕ). IsTextVerdict usage journal_text Done) (sym (took_all old.input.inward.given new.input.inward.given judged.0 none_given judged.1.gave.consumed.behind)) judged.2,
         took_all old.output.taken new.output.taken (codes "valid\n") none_taken r.0.1.taken,
         r.3,
       )
-  by_command (Some (Sample requests)) old new none_yet none_given none_taken untold r =
+  by_command first (Runs (Sample requests)) old new errors' none_yet none_given none_taken untold r =
       (r.0.0, r.0.1, took_all old.output.taken new.output.taken (summary_text r.0.0) none_taken r.0.2.taken, r.4)
-  by_command (Some (Fetch requester path)) old new none_yet none_given none_taken untold r = (call_done (fetch_call requester path) (call_part old) (call_part new) r.0, r.3)
-  by_command (Some (Put requester path media)) old new none_yet none_given none_taken untold r =
+  by_command first (Runs (Fetch requester path)) old new errors' none_yet none_given none_taken untold r = (call_done (fetch_call requester path) (call_part old) (call_part new) r.0, r.3)
+  by_command first (Runs (Put requester path media)) old new errors' none_yet none_given none_taken untold r =
       (put_done (record { requester = requester; path = path; media = media }) (put_part old) (put_part new) r.0, r.2)
-  by_command (Some (Delete requester path)) old new none_yet none_given none_taken untold r = (call_done (delete_call requester path) (call_part old) (call_part new) r.0, r.3)
-  by_command (Some (Follow requester document rounds)) old new none_yet none_given none_taken untold r =
+  by_command first (Runs (Delete requester path)) old new errors' none_yet none_given none_taken untold r = (call_done (delete_call requester path) (call_part old) (call_part new) r.0, r.3)
+  by_command first (Runs (Follow requester document rounds)) old new errors' none_yet none_given none_taken untold r =
       (follow_done (record { requester = requester; document = document; rounds = rounds }) Done (call_part old) (call_part new) refl r.0, r.3)
 
-  abbrev state_of : StreamState → StreamState → StreamState → StreamState → W → RunState W
-  state_of port peer input output w = record { port = port; peer = peer; input = input; output = output; watchers = w }
+  abbrev state_of : StreamState → HallState → StreamState → StreamState → StreamState → StreamState → W → RunState W
+  state_of port hall peer input output errors w = record { port = port; hall = hall; peer = peer; input = input; output = output; errors = errors; watchers = w }
 
   -- a run that returned 0
-  pub done_by : (command : Option Command) (exit : Exit) (port port' peer peer' input input' output output' : StreamState) (w w' : W) → port.port.begun ≡ no_connections → input.inward.given ≡ [] → output.taken ≡ [] → port'.port.to_come ≡ None
-      → status_of exit ≡ 0 → RunsCommand Keeps command exit (state_of port peer input output w) (state_of port' peer' input' output' w') → DoesCommand Keeps command (state_of port peer input output w) (state_of port' peer' input' output' w')
-  done_by command exit port port' peer peer' input input' output output' w w' none_yet none_given none_taken untold zero r =
-      by_command command (state_of port peer input output w) (state_of port' peer' input' output' w') none_yet none_given none_taken untold
-      (subst (λ (x : Exit). RunsCommand Keeps command x (state_of port peer input output w) (state_of port' peer' input' output' w')) (is_done exit zero) r)
+  pub done_by : (first : ℕ) (command : CommandLine) (exit : Exit) (port port' : StreamState) (hall hall' : HallState) (peer peer' input input' output output' errors told errors' : StreamState) (w w' : W) → port.port.begun ≡ no_connections → input.inward.given ≡ [] → output.taken ≡ [] → port'.port.to_come ≡ None
+      → status_of exit ≡ 0 → RunsCommand Keeps first command exit (state_of port hall peer input output errors w) (state_of port' hall' peer' input' output' told w') → DoesCommand Keeps first command (state_of port hall peer input output errors w) (state_of port' hall' peer' input' output' errors' w')
+  done_by first command exit port port' hall hall' peer peer' input input' output output' errors told errors' w w' none_yet none_given none_taken untold zero r =
+      by_command first command (state_of port hall peer input output errors w) (state_of port' hall' peer' input' output' told w') errors' none_yet none_given none_taken untold
+      (subst (λ (x : Exit). RunsCommand Keeps first command x (state_of port hall peer input output errors w) (state_of port' hall' peer' input' output' told w')) (is_done exit zero) r)

@@ -25,7 +25,7 @@ use Rattle.xcap_app.specs.inner.StandardAddresses.{ServesStandardAddress}
 use Rattle.xcap_app.specs.inner.CommandOutputs.{PrintsOutput}
 use Rattle.xcap_app.specs.inner.ServingEnds.{EndsServing}
 use Rattle.xcap_app.specs.declared.exit.Exit.{Exit}
-use Rattle.xcap_app.specs.declared.exit.Exit.TheVariants.{Done, Usage, InputFailed, OutputFailed, NetworkFailed, Refused, Client, BadJournal, OutOfMemory}
+use Rattle.xcap_app.specs.declared.exit.Exit.TheVariants.{Done, Usage, InputFailed, OutputFailed, NetworkFailed, Refused, Client, BadJournal, BadHostWords, OutOfMemory}
 
 -- the contents of a new server represent the state without documents
 begun : (c : Content) → c ≡ record { documents = []; next = 1 } → Represents c (first_state 1)
@@ -72,6 +72,7 @@ module _ {W : Type 0} (Keeps : List Edit → W → W → Type 0) where
   ended_so arguments served (Refused refusal) old new s stop prints = prints
   ended_so arguments served (Client fault) old new s stop prints = absurd prints
   ended_so arguments served (BadJournal refusal) old new s stop prints = prints
+  ended_so arguments served (BadHostWords fault) old new s stop prints = prints
   ended_so arguments served OutOfMemory old new s stop prints = absurd prints
 
   -- and where the port failed to begin a connection

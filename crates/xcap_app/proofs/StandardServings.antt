@@ -1,5 +1,5 @@
 -- What `serve` does by the whole machine, it does by the standards alone.
-use Rattle.std.proofs.Common.{◌≡◌, ℕ, List, inl, inr, Option, Some, refl, ap, subst}
+use Rattle.std.proofs.Common.{◌≡◌, ℕ, List, inl, inr, Option, refl, ap, subst}
 use Rattle.store_core.specs.State.{State, first_state}
 use Rattle.xcap_machine.specs.Machine.{StandardStep, ValidStep}
 use Rattle.xcap_machine.proofs.StandardAnswers.{is_standard_step}
@@ -15,11 +15,13 @@ use Rattle.xcap_app.specs.RunStates.{RunState, ServeState, ServiceState, serve_p
 use Rattle.xcap_app.specs.ServeCommand.{ServesAddress, ServesCommand, ServiceArguments}
 use Rattle.xcap_app.proofs.Ends.{ran_told}
 use Rattle.xcap_app.specs.ErrorMessages.{IsReportedAs}
-use Rattle.xcap_app.specs.declared.command.Command.{Command}
+use Rattle.halls.specs.HallState.{HallState}
+use Rattle.xcap_app.specs.declared.command_line.CommandLine.{CommandLine}
+use Rattle.xcap_app.specs.declared.command_line.CommandLine.TheVariants.{Runs}
 use Rattle.xcap_app.specs.declared.command.Command.TheVariants.{Serve}
 use Rattle.xcap_app.specs.StandardServing.{ServesByStandards, has_no_memory, has_no_port, serves_port}
 use Rattle.xcap_app.specs.declared.exit.Exit.{Exit}
-use Rattle.xcap_app.specs.declared.exit.Exit.TheVariants.{Done, Usage, InputFailed, OutputFailed, NetworkFailed, Refused, Client, BadJournal, OutOfMemory}
+use Rattle.xcap_app.specs.declared.exit.Exit.TheVariants.{Done, Usage, BadHostWords, InputFailed, OutputFailed, NetworkFailed, Refused, Client, BadJournal, OutOfMemory}
 
 -- a step of the machine, from the same state
 same_step : (root : List ℕ) (s s' m : State) (request : Request) (bytes : List ℕ) (edit : Option Edit) → s ≡ m → StepsInBytes (ValidStep root) s request bytes s' edit
@@ -43,21 +45,22 @@ module _ {W : Type 0} (Keeps : List Edit → W → W → Type 0) where
   standard_serving arguments NetworkFailed old new (inr (served, s, stop), same) = address_standard arguments NetworkFailed served (serve_service_state old) (serve_service_state new) s
   standard_serving arguments OutOfMemory old new same = has_no_memory refl (ap serve_service_state same)
   standard_serving arguments Usage old new never = absurd never
+  standard_serving arguments (BadHostWords fault) old new never = absurd never
   standard_serving arguments InputFailed old new never = absurd never
   standard_serving arguments (Refused refusal) old new never = absurd never
   standard_serving arguments (Client fault) old new never = absurd never
   standard_serving arguments (BadJournal refusal) old new never = absurd never
 
-  abbrev state_of : StreamState → StreamState → StreamState → StreamState → W → RunState W
-  state_of port peer input output w = record { port = port; peer = peer; input = input; output = output; watchers = w }
+  abbrev state_of : StreamState → HallState → StreamState → StreamState → StreamState → StreamState → W → RunState W
+  state_of port hall peer input output errors w = record { port = port; hall = hall; peer = peer; input = input; output = output; errors = errors; watchers = w }
 
   -- and what is reported of a run of the command `serve`
-  pub standard_run : (command : Option Command) (address root : List ℕ) (count : ℕ) (exit told : Exit) (port port' peer peer' input input' output output' : StreamState) (w w' : W) → IsReportedAs exit told
-      → RunsCommand Keeps command exit (state_of port peer input output w) (state_of port' peer' input' output' w') → command ≡ Some (Serve address root count)
+  pub standard_run : (first : ℕ) (command : CommandLine) (address root : List ℕ) (count : ℕ) (exit told : Exit) (port port' : StreamState) (hall hall' : HallState) (peer peer' input input' output output' errors errors' : StreamState) (w w' : W) → IsReportedAs exit told
+      → RunsCommand Keeps first command exit (state_of port hall peer input output errors w) (state_of port' hall' peer' input' output' errors' w') → command ≡ Runs (Serve address root count)
       → ServesByStandards Keeps (service_arguments address root count) told (record { port = port; watchers = w }) (record { port = port'; watchers = w' })
-  standard_run command address root count exit told port port' peer peer' input input' output output' w w' is ran spelled =
-      let old : RunState W = state_of port peer input output w in
-      let new : RunState W = state_of port' peer' input' output' w' in
-      let serves : RunsCommand Keeps (Some (Serve address root count)) told old new =
-      subst (λ (c : Option Command). RunsCommand Keeps c told old new) spelled (ran_told Keeps command exit told port port' peer peer' input input' output output' w w' is ran) in
+  standard_run first command address root count exit told port port' hall hall' peer peer' input input' output output' errors errors' w w' is ran spelled =
+      let old : RunState W = state_of port hall peer input output errors w in
+      let new : RunState W = state_of port' hall' peer' input' output' errors' w' in
+      let serves : RunsCommand Keeps first (Runs (Serve address root count)) told old new =
+      subst (λ (c : CommandLine). RunsCommand Keeps first c told old new) spelled (ran_told Keeps first command exit told port port' hall hall' peer peer' input input' output output' errors errors' w w' is ran) in
       standard_serving (service_arguments address root count) told (serve_part old) (serve_part new) serves.0

@@ -6,8 +6,10 @@ use Rattle.usage_docs.specs.declared.validation.Fault.TheVariants.{Invalid, Unfo
 use Rattle.client_commands.specs.FaultMessages.{fault_message, status_of_fault}
 use Rattle.xcap_app.specs.declared.exit.Exit.{Exit}
 use Rattle.xcap_app.specs.declared.exit.Exit.TheVariants.{Done, Usage, InputFailed, OutputFailed}
+use Rattle.xcap_app.specs.declared.exit.Exit.TheVariants.{BadHostWords}
 use Rattle.xcap_app.specs.declared.exit.Exit.TheVariants.{NetworkFailed, Refused, Client}
 use Rattle.xcap_app.specs.declared.exit.Exit.TheVariants.{BadJournal, OutOfMemory}
+use Rattle.xcap_app.specs.HostWords.{host_message}
 use Rattle.xcap_app.specs.declared.journal_refusal.JournalRefusal.{JournalRefusal}
 use Rattle.xcap_app.specs.declared.journal_refusal.JournalRefusal.TheVariants.{Damaged}
 use Rattle.xcap_app.specs.declared.journal_refusal.JournalRefusal.TheVariants.{Refused as RefusedAt}
@@ -25,6 +27,7 @@ usage_line =
 abbrev pub status_of : Exit → ℕ
 status_of Done = 0
 status_of Usage = 2
+status_of (BadHostWords fault) = 2
 status_of InputFailed = 3
 status_of OutputFailed = 4
 status_of NetworkFailed = 5
@@ -56,6 +59,7 @@ journal_message TooLong = codes "journal: too-long\n"
 abbrev pub words_of : Exit → List ℕ
 words_of Done = []
 words_of Usage = usage_line
+words_of (BadHostWords fault) = host_message fault
 words_of InputFailed = codes "input failed\n"
 words_of OutputFailed = codes "output failed\n"
 words_of NetworkFailed = codes "network failed\n"
@@ -64,9 +68,11 @@ words_of (Client fault) = fault_message fault
 words_of (BadJournal refusal) = journal_message refusal
 words_of OutOfMemory = codes "out of memory\n"
 
--- the message allocates: the input was refused, or a call of the client failed
+-- the message allocates: the input or the words after `host` were refused, or a call of the
+-- client failed
 abbrev pub HasAllocatedMessage : Exit → Type 0
 HasAllocatedMessage (Refused refusal) = Unit {0}
 HasAllocatedMessage (Client fault) = Unit {0}
+HasAllocatedMessage (BadHostWords fault) = Unit {0}
 HasAllocatedMessage (BadJournal refusal) = Unit {0}
 HasAllocatedMessage _ = ⊥

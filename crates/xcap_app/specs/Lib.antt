@@ -1,10 +1,13 @@
 pub mod CheckCommand
 pub mod ClientArguments
 pub mod ClientCommands
+pub mod CommandLines
 pub mod CommandRuns
 pub mod Commands
 pub mod ErrorMessages
 pub mod Exits
+pub mod HostCommand
+pub mod HostWords
 pub mod KeepCommand
 pub mod ReplayCommand
 pub mod RunStates

@@ -1,4 +1,5 @@
 -- What a run of the program uses, at one moment. The project's own.
+use Rattle.halls.specs.HallState.{HallState}
 use Rattle.xcap_io.specs.StreamStates.{StreamState}
 use Rattle.client_commands.specs.CommandEnds.{CallStreams}
 use Rattle.client_commands.specs.PutCommand.{PutStreams}
@@ -32,12 +33,20 @@ pub record KeepState (W : Type 0) : Type 0 where
   pub output : StreamState
   pub watchers : W
 
+-- What `host` uses.
+pub record HostState (W : Type 0) : Type 0 where
+  pub hall : HallState
+  pub errors : StreamState
+  pub watchers : W
+
 -- What any command may use.
 pub record RunState (W : Type 0) : Type 0 where
   pub port : StreamState
+  pub hall : HallState
   pub peer : StreamState
   pub input : StreamState
   pub output : StreamState
+  pub errors : StreamState
   pub watchers : W
 
 -- the part that serves connections
@@ -67,6 +76,10 @@ keep_part state = record {
   output = state.output;
   watchers = state.watchers;
 }
+
+-- `host`
+abbrev pub host_part : {W : Type 0} → RunState W → HostState W
+host_part state = record { hall = state.hall; errors = state.errors; watchers = state.watchers }
 
 -- `check`
 abbrev pub io_part : {W : Type 0} → RunState W → IoStreams

@@ -1,6 +1,6 @@
 -- What `serve` does by RFC 4825 and 4826 alone, whatever this server's own addresses are answered.
 -- What it prints, and how it ends, is in `ServeCommand`.
-use Rattle.std.specs.Prelude.{◌≡◌, ℕ, List}
+use Rattle.std.specs.Prelude.{◌≡◌, List}
 use Rattle.store_core.specs.State.{State, first_state}
 use Rattle.xcap_machine.specs.Machine.{StandardStep}
 use Rattle.edit_ops.specs.declared.edit.Edit.{Edit}

@@ -1,8 +1,12 @@
 -- What a run of the program that ends with 0 did, over sockets and streams without any traffic
 -- before. The machine follows RFC 4825; the program is the project's own.
-use Rattle.std.specs.Prelude.{◌≡◌, ℕ, List, codes, length, Option, None, Some}
+use Rattle.std.specs.Prelude.{◌≡◌, ℕ, ◌<◌, List, codes, length, Some}
 use Rattle.edit_ops.specs.declared.edit.Edit.{Edit}
+use Rattle.halls.specs.HallState.{connection_at}
+use Rattle.hall_serve.specs.Exchanges.{AreExchanges, Exchange, edits, exchanges_on}
+use Rattle.hall_serve.specs.ServedConnections.{IsServed}
 use Rattle.store_core.specs.State.{State, first_state}
+use Rattle.store_core.specs.ValidStates.{IsValidState}
 use Rattle.http_wire.specs.declared.request.Request.{Request}
 use Rattle.edit_journal.specs.JournalTexts.{IsTorn, HasCompleteRecords, journal_text}
 use Rattle.edit_journal.specs.LoggedMachines.{LoggedStep}
@@ -24,9 +28,11 @@ use Rattle.xcap_app.specs.ServeCommand.{served_line}
 use Rattle.xcap_app.specs.TextVerdicts.{IsTextVerdict}
 use Rattle.xcap_app.specs.SampleCommand.{MakesSample, summary_text}
 use Rattle.xcap_app.specs.declared.sample_summary.Summary.{Summary}
-use Rattle.xcap_app.specs.declared.command.Command.{Command}
 use Rattle.xcap_app.specs.declared.command.Command.TheVariants.{Replay, Serve, Keep, Check, Sample}
 use Rattle.xcap_app.specs.declared.command.Command.TheVariants.{Fetch, Put, Delete, Follow}
+use Rattle.xcap_app.specs.declared.command.Command.TheVariants.{Host}
+use Rattle.xcap_app.specs.declared.command_line.CommandLine.{CommandLine}
+use Rattle.xcap_app.specs.declared.command_line.CommandLine.TheVariants.{Runs, BadHost, Unknown}
 use Rattle.xcap_app.specs.declared.exit.Exit.TheVariants.{Done}
 
 -- the text means a document, which was followed to the end
@@ -87,31 +93,49 @@ module _ {W : Type 0} (Keeps : List Edit → W → W → Type 0) where
     pub took : new.output.taken ≡ journal_text accepted
     pub notified : Keeps edits old.watchers new.watchers
 
-  -- what was done, by the command that the words spell
-  abbrev pub DoesCommand : Option Command → RunState W → RunState W → Type 0
-  DoesCommand None old new = ⊥
-  DoesCommand (Some (Replay root)) old new = AnswersInput root old new
-  DoesCommand (Some (Serve address root count)) old new =
+  -- On all connections of the hall the machine of this root answered, in one order of all
+  -- exchanges, from the state without documents and this first number on, through valid states. The
+  -- bytes given on each connection begin with the items of its exchanges, and the bytes taken are
+  -- its replies, as far as they were written. The watchers were notified of exactly the changes
+  -- that it made, in order.
+  pub record AnswersHall (first : ℕ) (root : List ℕ) (old new : RunState W) : Type 0 where
+    pub state : State
+    pub kept : IsValidState state
+    pub exchanges : List (Exchange Edit)
+    pub steps : AreExchanges (StepsInBytes (ValidStep root)) (first_state first) exchanges state
+    pub each : (n : ℕ) → n < length new.hall.connections
+        → IsServed (connection_at new.hall n) (exchanges_on n exchanges)
+    pub notified : Keeps (edits exchanges) old.watchers new.watchers
+
+  -- what was done, by the command that the words spell; `first` is the number of the first change
+  -- of `host`, which the clock gave
+  abbrev pub DoesCommand : ℕ → CommandLine → RunState W → RunState W → Type 0
+  DoesCommand first Unknown old new = ⊥
+  DoesCommand first (BadHost fault) old new = ⊥
+  DoesCommand first (Runs (Replay root)) old new = AnswersInput root old new
+  DoesCommand first (Runs (Serve address root count)) old new =
       AnswersAllConnections root old new × (length (port_traffic new.port) ≡ count)
       × (new.output.taken ≡ served_line count)
-  DoesCommand (Some (Keep address root count)) old new = AnswersAfterJournal root count old new
-  DoesCommand (Some (Check usage)) old new =
+  DoesCommand first (Runs (Keep address root count)) old new =
+      AnswersAfterJournal root count old new
+  DoesCommand first (Runs (Host address root options)) old new = AnswersHall first root old new
+  DoesCommand first (Runs (Check usage)) old new =
       IsTextVerdict usage new.input.inward.given Done × (new.output.taken ≡ codes "valid\n")
       × (new.watchers ≡ old.watchers)
-  DoesCommand (Some (Sample requests)) old new =
+  DoesCommand first (Runs (Sample requests)) old new =
       (summary : Summary) × MakesSample requests summary × (new.output.taken ≡ summary_text summary)
       × (new.watchers ≡ old.watchers)
-  DoesCommand (Some (Fetch requester path)) old new =
+  DoesCommand first (Runs (Fetch requester path)) old new =
       MakesOneCall (fetch_call requester path) ends.Done (call_part old) (call_part new)
       × (new.watchers ≡ old.watchers)
-  DoesCommand (Some (Put requester path media)) old new =
+  DoesCommand first (Runs (Put requester path media)) old new =
       PutsFromInput (record { requester = requester; path = path; media = media }) ends.Done
       (put_part old) (put_part new)
       × (new.watchers ≡ old.watchers)
-  DoesCommand (Some (Delete requester path)) old new =
+  DoesCommand first (Runs (Delete requester path)) old new =
       MakesOneCall (delete_call requester path) ends.Done (call_part old) (call_part new)
       × (new.watchers ≡ old.watchers)
-  DoesCommand (Some (Follow requester document rounds)) old new =
+  DoesCommand first (Runs (Follow requester document rounds)) old new =
       FollowsNamedDocument (record { requester = requester; document = document; rounds = rounds })
       (call_part old) (call_part new)
       × (new.watchers ≡ old.watchers)

@@ -1,4 +1,5 @@
 // The commands of the command line.
+use crate::host_options::HostOptions;
 use client_commands::Requester;
 use doc_names::Usage;
 use xcap_uri::Root;
@@ -24,6 +25,12 @@ pub enum Command {
         address: Text,
         root: Root,
         count: u32,
+    },
+    /// Serves the connections that come at an address, many at once, by a server of this root.
+    Host {
+        address: Text,
+        root: Root,
+        options: HostOptions,
     },
     /// Reads the input as a document of this usage.
     Check {

@@ -3,6 +3,7 @@ ghost use Rattle.std.specs.Prelude.{◌≡◌, IfOk, OnErr};
 ghost use Rattle.xcap_app.specs.Exits.{HasAllocatedMessage, status_of, words_of};
 ghost use Rattle.xcap_app.specs.inner.MessageBytes.{message_bytes};
 
+use crate::host_options::HostFault;
 use crate::journal_refusal::JournalRefusal;
 use crate::refusal::Refusal;
 use client_follower::FollowerFault;
@@ -15,6 +16,8 @@ pub enum Exit {
     Done,
     /// The words spell no command.
     Usage,
+    /// The words after `host` spell no command.
+    BadHostWords(HostFault),
     /// A read of the input failed.
     InputFailed,
     /// A write to the output failed.
@@ -60,6 +63,7 @@ impl Exit {
         match self {
             Exit::Done => 0,
             Exit::Usage => 2,
+            Exit::BadHostWords(_) => 2,
             Exit::InputFailed => 3,
             Exit::OutputFailed => 4,
             Exit::NetworkFailed => 5,
@@ -73,8 +77,8 @@ impl Exit {
     /// The message on the stream for errors.
     ///
     /// # Errors
-    /// `AllocError` when out of memory; only the messages of a refusal and of a call that failed
-    /// allocate.
+    /// `AllocError` when out of memory; only the messages of a refusal, of a call that failed and of
+    /// words after `host` allocate.
     #[tactic(auto, unfolding(crate::specs::Exits::usage_line))]
     pub(crate) fn words(&self, alloc: Global) -> Result<Message, AllocError>
         ensures ok { IfOk result (λ words. message_bytes words ≡ words_of self.now) }
@@ -83,6 +87,7 @@ impl Exit {
         match self {
             Exit::Done => Ok(Message::Fixed(b"")),
             Exit::Usage => Ok(Message::Fixed(USAGE)),
+            Exit::BadHostWords(fault) => Ok(Message::Made(fault.words(alloc)?)),
             Exit::InputFailed => Ok(Message::Fixed(b"input failed\n")),
             Exit::OutputFailed => Ok(Message::Fixed(b"output failed\n")),
             Exit::NetworkFailed => Ok(Message::Fixed(b"network failed\n")),

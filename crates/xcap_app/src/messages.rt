@@ -17,8 +17,8 @@ pub(crate) fn print<O: Sink>(output: &mut O, bytes: &[u8]) -> Exit
     }
 }
 
-// Writes the message. A failure of the stream changes nothing else, so it isn't returned.
-fn write_message<E: Sink>(errors: &mut E, words: &[u8])
+/// Writes the message. A failure of the stream changes nothing else, so it isn't returned.
+pub(crate) fn write_message<E: Sink>(errors: &mut E, words: &[u8])
     ensures writes_words { WritesMessage words.now (E.state errors.old) (E.state errors.new) }
 {
     let _ = write_all(errors, words);

@@ -44,7 +44,7 @@ use Rattle.xcap_app.specs.KeepCommand.{FailsToReadJournal, KeepsCommand, EndsKee
 use Rattle.xcap_app.specs.RunStates.{IoStreams, KeepState, ServiceState, keep_journals, keep_service_state}
 use Rattle.xcap_app.specs.ServeCommand.{ServiceArguments}
 use Rattle.xcap_app.specs.declared.exit.Exit.{Exit}
-use Rattle.xcap_app.specs.declared.exit.Exit.TheVariants.{Done, Usage, InputFailed, OutputFailed, NetworkFailed, Refused, Client, BadJournal, OutOfMemory}
+use Rattle.xcap_app.specs.declared.exit.Exit.TheVariants.{Done, Usage, InputFailed, OutputFailed, NetworkFailed, Refused, Client, BadJournal, BadHostWords, OutOfMemory}
 use Rattle.xcap_app.specs.declared.journal_refusal.JournalRefusal.{JournalRefusal}
 use Rattle.xcap_app.specs.declared.journal_refusal.JournalRefusal.TheVariants as refusals
 use Rattle.xcap_laws.specs.WrittenJournals.{RestartsFromJournal, IsWrittenJournal, ServesAfterJournal}
@@ -139,6 +139,7 @@ module _ {W : Type 0} (Keeps : List Edit → W → W → Type 0) where
   kept_written arguments (Refused refusal) journal old new input input' taken taken' bytes HasFailed records h took = absurd h
   kept_written arguments (Client fault) journal old new input input' taken taken' bytes HasFailed records h took = absurd h
   kept_written arguments (BadJournal refusal) journal old new input input' taken taken' bytes HasFailed records h took = absurd h
+  kept_written arguments (BadHostWords fault) journal old new input input' taken taken' bytes HasFailed records h took = absurd h
   kept_written arguments OutOfMemory journal old new input input' taken taken' bytes HasFailed records h took = absurd h
 
   pub writes_records : (arguments : ServiceArguments) (exit : Exit) (old new : KeepState W) (bytes : List ℕ) → KeepsCommand Keeps arguments exit old new → TakesBytes old.output.taken new.output.taken bytes
