@@ -3,7 +3,6 @@ import pathlib
 import resource
 import select
 import subprocess
-import time
 
 from deployment.stage import free_port
 
@@ -55,13 +54,3 @@ class Host:
         told = pathlib.Path(f"/proc/{self.process.pid}/stat").read_text().rpartition(")")[2]
         fields = told.split()
         return (int(fields[11]) + int(fields[12])) / TICKS
-
-
-def wait_for(holds, seconds):
-    """Whether it holds within this time."""
-    until = time.monotonic() + seconds
-    while time.monotonic() < until:
-        if holds():
-            return True
-        time.sleep(0.05)
-    return holds()
