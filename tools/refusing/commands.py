@@ -42,6 +42,7 @@ class Replay:
     """The input as one connection: its replies up to one by 503, after which nothing comes."""
 
     name = "replay"
+    is_one = True
 
     def __init__(self, program):
         self.words = [program, "replay", requests.ROOT]
@@ -74,6 +75,7 @@ class Fetch:
     """A document of a scripted peer, written whole or not at all."""
 
     name = "fetch"
+    is_one = True
     reply = (
         "HTTP/1.1 200 OK\r\nContent-Type: application/resource-lists+xml\r\n"
         f'ETag: "5"\r\nContent-Length: {len(requests.LISTS)}\r\n\r\n{requests.LISTS}'
@@ -114,6 +116,7 @@ class Follow:
     memory was refused; and where it wasn't, the server's document."""
 
     name = "follow"
+    is_one = True
     changes = [[], [requests.put_entry("sip:b@x")], [requests.put_entry("sip:c@x")]]
 
     def __init__(self, program):
@@ -159,6 +162,7 @@ class Keep:
     first answer is 503; and its journal and a restart from it have all that was accepted."""
 
     name = "keep"
+    is_one = True
 
     def __init__(self, program):
         self.program = program
@@ -230,4 +234,51 @@ class Keep:
         need(shown == due, "a restart from the journal shows something else")
 
 
-COMMANDS = [Replay, Fetch, Follow, Keep]
+class Lent:
+    """GETs of what is stored, of each of which every request for memory from one on is refused. One
+    is answered 503 as long as those that read the request are among them; they are small, and as
+    many for a long document as for a short one. After them memory isn't needed: the reply is the
+    one that is due, from a print that is kept or from a tree that has none."""
+
+    name = "lent"
+    is_one = False
+    above = 1_024
+
+    def __init__(self, program):
+        self.program = program
+        self.due = None
+
+    def started(self, refusing):
+        """A server that holds a short document and a long one, that without a print."""
+        server = Served(self.program, requests.ROOT, around=refusing.around)
+        server.wait_until_there()
+        need(all(server.wire.ask(it).is_success for it in requests.TO_LEND), "not made")
+        return server
+
+    def prepare(self, refusing):
+        with self.started(refusing) as server:
+            counts, self.due = zip(*(self.ask_wholly(refusing, server, it) for it in requests.LENT))
+        need(all(it.status == 200 for it in self.due), "not found")
+        need(len(set(counts)) == 1, f"requests for memory, by document: {counts}")
+
+    def ask_wholly(self, refusing, server, request):
+        """How many requests for memory a GET makes where large ones are refused; and its answer."""
+        before = refusing.made
+        with refusing.refused_from(1, self.above):
+            reply = server.wire.ask(request)
+        return refusing.made - before, reply
+
+    def outcome(self, refusing):
+        with self.started(refusing) as server:
+            replies = [self.ask(refusing, server, it) for it in requests.LENT]
+        for number, (reply, due) in enumerate(zip(replies, self.due), 1):
+            need(bytes_of(reply) in (bytes_of(due), NO_MEMORY), f"GET {number}: {reply.head}")
+        return "503" if any(it.status == 503 for it in replies) else "served"
+
+    @staticmethod
+    def ask(refusing, server, request):
+        with refusing.refused_from(refusing.number):
+            return server.wire.ask(request)
+
+
+COMMANDS = [Replay, Lent, Fetch, Follow, Keep]

@@ -69,3 +69,16 @@ SHOWING = [
     asking("GET", "rls-services/global/index"),
     feed("aggregate", 4),
 ]
+
+# A document of some 60,000 bytes, and what a GET shows of it without memory for its text.
+LONG = f"resource-lists/users/{JOE}/long"
+LONG_ENTRIES = "".join(f'<entry uri="sip:{n:04}@long.example.com"/>' for n in range(1_500))
+LONG_LISTS = LISTS.replace("</list>", f"{LONG_ENTRIES}</list>")
+LONG_FRIENDS = f"{LONG}/~~/resource-lists/list"
+LONG_FRIENDS = f"{LONG}/~~/resource-lists/list"
+TO_LEND = [
+    PUT_LISTS,
+    asking("PUT", LONG, LONG_LISTS, "resource-lists"),
+    asking("PUT", f"{LONG_FRIENDS}/@xml:lang", "en", "xcap-att"),
+]
+LENT = [asking("GET", it) for it in (INDEX, LONG, FRIENDS, LONG_FRIENDS)]

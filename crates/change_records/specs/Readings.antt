@@ -7,7 +7,9 @@ use Rattle.std.specs.Option.{option_and_then}
 use Rattle.byte_blocks.specs.Blocks.{block_at}
 use Rattle.http_wire.specs.declared.request.Field.{Field}
 use Rattle.http_wire.specs.declared.request.Request.{Request}
+use Rattle.request_checks.specs.declared.method.Method.TheVariants.{Put, Delete}
 use Rattle.change_records.specs.ReadFields.{name_of}
+use Rattle.change_records.specs.Records.{field_number, method_number}
 use Rattle.change_records.specs.declared.read_fields.ReadField.{ReadField}
 use Rattle.change_records.specs.declared.read_fields.ReadField.TheVariants.{User, IfMatch}
 use Rattle.change_records.specs.declared.read_fields.ReadField.TheVariants.{IfNoneMatch}
@@ -17,17 +19,17 @@ use Rattle.change_records.specs.declared.read_fields.ReadField.TheVariants.{Cont
 -- the method of this number
 abbrev pub method_at : ℕ → Option (List ℕ)
 method_at number =
-    if number == 1 then Some (chars (codes "PUT"))
-    else if number == 2 then Some (chars (codes "DELETE")) else None
+    if number == method_number Put then Some (chars (codes "PUT"))
+    else if number == method_number Delete then Some (chars (codes "DELETE")) else None
 
 -- the field of this number
 abbrev pub read_field_at : ℕ → Option ReadField
 read_field_at number =
-    if number == 1 then Some User
-    else if number == 2 then Some IfMatch
-    else if number == 3 then Some IfNoneMatch
-    else if number == 4 then Some ContentType
-    else if number == 5 then Some ContentEncoding
+    if number == field_number User then Some User
+    else if number == field_number IfMatch then Some IfMatch
+    else if number == field_number IfNoneMatch then Some IfNoneMatch
+    else if number == field_number ContentType then Some ContentType
+    else if number == field_number ContentEncoding then Some ContentEncoding
     else None
 
 -- a field of this name, whose value is the block at the front, and the bytes after it

@@ -31,7 +31,7 @@ pub fn starts_begin_one_connection()
 {}
 
 /// A round of a follower begins at most two connections, and at least one where it succeeded.
-pub fn rounds_begin_two_connections()
+pub fn rounds_begin_at_most_two_connections()
     ensures two_at_most { (f f' : FollowerState) (old new : StreamState)
         (result : Result Round FollowerFault)
         → RunsRound f f' old new result → RoundBeginsConnections f.root old new result }

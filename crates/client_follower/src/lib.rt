@@ -3,7 +3,7 @@
 //! Promises upward that each round asks for the changes since the replica's etag, and for the
 //! document where the feed doesn't suffice (`RunsRound`, `StartsFollower`); that after a fault the
 //! follower is as it was; and that a call and a start begin at most one connection, a round at most
-//! two (`calls_begin_one_connection`, `rounds_begin_two_connections`).
+//! two (`calls_begin_one_connection`, `rounds_begin_at_most_two_connections`).
 //! The standards are RFC 4825, sections 7 and 8, RFC 5874 and RFC 5875.
 #![tactic(auto)]
 
@@ -19,5 +19,5 @@ pub use feed_rounds::Round;
 pub use follower::Follower;
 pub use follower_fault::FollowerFault;
 pub use laws::{
-    calls_begin_one_connection, rounds_begin_two_connections, starts_begin_one_connection,
+    calls_begin_one_connection, rounds_begin_at_most_two_connections, starts_begin_one_connection,
 };

@@ -11,7 +11,7 @@ use Rattle.httparse.specs.Grammar.{is_token_byte, AllPass}
 use Rattle.edit_journal.specs.Records.{length_prefixed}
 use Rattle.edit_journal.specs.declared.field_parsers.FieldError.{FieldError}
 use Rattle.edit_journal.specs.declared.field_parsers.FieldError.TheVariants.{Open, Wrong, NoMemory}
-use Rattle.edit_journal.specs.inner.RecordParts.{ReadsPart, IsU32Between, IsBlockBetween, IsTokenBlock}
+use Rattle.edit_journal.specs.inner.RecordParts.{ReadsPart, IsU32Between, IsBlockOfLength, IsTokenBlock}
 
 -- two equal lists that begin with parts of the same length begin with the same part, and continue
 -- with the same rest
@@ -38,7 +38,7 @@ unfolding length_prefixed
 block_is value = refl
 
 -- a block whose number is missing
-pub block_stops : {B : Type 0} (seen : B → List ℕ) (bytes : List ℕ) (least most : ℕ) (stop : FieldError) → ReadsPart (λ n. n) (IsU32Between least most) bytes (Err stop) → ReadsPart seen (IsBlockBetween least most) bytes (Err stop)
+pub block_stops : {B : Type 0} (seen : B → List ℕ) (bytes : List ℕ) (least most : ℕ) (stop : FieldError) → ReadsPart (λ n. n) (IsU32Between least most) bytes (Err stop) → ReadsPart seen (IsBlockOfLength least most) bytes (Err stop)
 block_stops seen bytes least most Open (more, value, some, (is, low, high)) =
     let zeros = replicate value 0 in
     let size : length zeros ≡ value = length-replicate value 0 in (
@@ -84,7 +84,7 @@ behind_number bytes front rest len split is =
 
 -- A number, and then fewer bytes than it says.
 pub block_open : {B : Type 0} (seen : B → List ℕ) (bytes : List ℕ) (least most len : ℕ) (piece : List ℕ) → ReadsPart (λ n. n) (IsU32Between least most) bytes (Ok len)
-    → piece ≡ take len (drop 4 bytes) → length piece < len → ReadsPart seen (IsBlockBetween least most) bytes (Err Open)
+    → piece ≡ take len (drop 4 bytes) → length piece < len → ReadsPart seen (IsBlockOfLength least most) bytes (Err Open)
 block_open seen bytes least most len piece (front, rest, split, (is, low, high)) part short =
     let same : piece ≡ take len rest = part ∙ ap (take len) (behind_number bytes front rest len split is) in
     let whole : length rest < len = omega (arith, ap length same, length-take len rest) in
@@ -95,7 +95,7 @@ block_open seen bytes least most len piece (front, rest, split, (is, low, high))
 
 -- A number, and that many bytes.
 pub block_whole : (bytes : List ℕ) (least most len : ℕ) (piece : List ℕ) → ReadsPart (λ n. n) (IsU32Between least most) bytes (Ok len)
-    → piece ≡ take len (drop 4 bytes) → len ≤ length piece → (front rest : List ℕ) × (bytes ≡ front ++ rest) × IsBlockBetween least most front piece
+    → piece ≡ take len (drop 4 bytes) → len ≤ length piece → (front rest : List ℕ) × (bytes ≡ front ++ rest) × IsBlockOfLength least most front piece
 block_whole bytes least most len piece (front, rest, split, (is, low, high)) part long =
     let same : piece ≡ take len rest = part ∙ ap (take len) (behind_number bytes front rest len split is) in
     let size : length piece ≡ len = omega (arith, ap length same, length-take len rest) in (

@@ -8,7 +8,7 @@ use Rattle.http_wire.specs.declared.request.Request.{Request}
 use Rattle.edit_journal.specs.Records.{method_number, length_prefixed, record_content, field_text}
 use Rattle.edit_journal.specs.declared.field_parsers.FieldError.{FieldError}
 use Rattle.edit_journal.specs.declared.field_parsers.FieldError.TheVariants.{Open, Wrong, NoMemory}
-use Rattle.edit_journal.specs.inner.RecordParts.{ReadsPart, IsU32Between, IsBlockBetween, IsMethodByte, IsRestOfContent, IsRecordContent, IsRecordOf}
+use Rattle.edit_journal.specs.inner.RecordParts.{ReadsPart, IsU32Between, IsBlockOfLength, IsMethodByte, IsRestOfContent, IsRecordContent, IsRecordOf}
 use Rattle.edit_journal.proofs.Blocks.{second_part, first_part, one_block, one_number, block_is}
 use Rattle.edit_journal.proofs.Lengths.{block_length, content_length}
 use Rattle.edit_journal.proofs.Rests.{rest_there}
@@ -73,7 +73,7 @@ content_no_method seen bytes len Wrong some fits wrong = λ all request more beh
 content_no_method seen bytes len NoMemory some fits none = tt
 
 pub content_no_target : {B C : Type 0} (seen : B → Request) (seen' : C → List ℕ) (bytes front tail method : List ℕ) (len : ℕ) (stop : FieldError) → 11 ≤ len → len ≤ 300000 → bytes ≡ front ++ tail → IsMethodByte front method
-    → ReadsPart seen' (IsBlockBetween 0 (len - 11)) tail (Err stop) → ReadsPart seen (IsRecordContent len) bytes (Err stop)
+    → ReadsPart seen' (IsBlockOfLength 0 (len - 11)) tail (Err stop) → ReadsPart seen (IsRecordContent len) bytes (Err stop)
 content_no_target seen seen' bytes front tail method len Open some fits split named (more, target, longer, (is, low, high)) =
     let rest = rest_there (len - (5 + length target)) (omega arith) in
     let joined : bytes ++ (more ++ rest.0) ≡ front ++ (length_prefixed target ++ rest.0) =
@@ -92,7 +92,7 @@ content_no_target seen seen' bytes front tail method len Wrong some fits split n
 content_no_target seen seen' bytes front tail method len NoMemory some fits split named none = tt
 
 pub content_no_rest : {B C : Type 0} (seen : B → Request) (seen' : C → List Field × List ℕ) (bytes front tail method front' tail' target : List ℕ) (len : ℕ) (stop : FieldError) → 11 ≤ len → len ≤ 300000 → bytes ≡ front ++ tail → IsMethodByte front method
-    → tail ≡ front' ++ tail' → IsBlockBetween 0 (len - 11) front' target → ReadsPart seen' (IsRestOfContent (len - (5 + length target))) tail' (Err stop) → ReadsPart seen (IsRecordContent len) bytes (Err stop)
+    → tail ≡ front' ++ tail' → IsBlockOfLength 0 (len - 11) front' target → ReadsPart seen' (IsRestOfContent (len - (5 + length target))) tail' (Err stop) → ReadsPart seen (IsRecordContent len) bytes (Err stop)
 content_no_rest seen seen' bytes front tail method front' tail' target len Open some fits split named split' is (more, value, longer, rest) =
     let joined : bytes ++ more ≡ front ++ (length_prefixed target ++ (tail' ++ more)) =
     ap (λ l. l ++ more) split ∙ append_assoc front tail more ∙ ap (λ l. front ++ (l ++ more)) split' ∙ ap (λ l. front ++ l) (append_assoc front' tail' more) ∙ ap (λ l. front ++ (l ++ (tail' ++ more))) is.0 in
@@ -109,7 +109,7 @@ content_no_rest seen seen' bytes front tail method front' tail' target len Wrong
 content_no_rest seen seen' bytes front tail method front' tail' target len NoMemory some fits split named split' is none = tt
 
 pub content_whole : (bytes front tail method front' tail' target front'' tail'' : List ℕ) (value : List Field × List ℕ) (len : ℕ) → 11 ≤ len → len ≤ 300000 → bytes ≡ front ++ tail → IsMethodByte front method
-    → tail ≡ front' ++ tail' → IsBlockBetween 0 (len - 11) front' target → tail' ≡ front'' ++ tail'' → IsRestOfContent (len - (5 + length target)) front'' value → ReadsPart (λ (r : Request). r) (IsRecordContent len) bytes (Ok (request_with method target value))
+    → tail ≡ front' ++ tail' → IsBlockOfLength 0 (len - 11) front' target → tail' ≡ front'' ++ tail'' → IsRestOfContent (len - (5 + length target)) front'' value → ReadsPart (λ (r : Request). r) (IsRecordContent len) bytes (Ok (request_with method target value))
 content_whole bytes front tail method front' tail' target front'' tail'' value len some fits split named split' is split'' rest = (
   front ++ (front' ++ front''),
   tail'',

@@ -16,7 +16,7 @@ use Rattle.std.proofs.Common.{take-append-drop}
 use Rattle.std.proofs.Math.Seq.{take-append_seam}
 use Rattle.edit_journal.proofs.Blocks.{one_block}
 use Rattle.edit_journal.proofs.Lengths.{block_length, field_length}
-use Rattle.edit_journal.specs.inner.RecordParts.{ReadsPart, IsBlockBetween, IsTokenBlock, IsFieldValue, IsFieldPart, IsFieldsAndBody, HasRoomForFields}
+use Rattle.edit_journal.specs.inner.RecordParts.{ReadsPart, IsBlockOfLength, IsTokenBlock, IsFieldValue, IsFieldPart, IsFieldsAndBody, HasRoomForFields}
 
 -- a field whose name is missing
 pub field_no_name : (bytes : List ℕ) (others left : ℕ) (stop : FieldError) → 9 * others + 13 ≤ left → ReadsPart (λ (piece : Bor (List ℕ)). piece.now) (IsTokenBlock 1 (left - 12 - 9 * others)) bytes (Err stop)
@@ -123,7 +123,7 @@ first_field others left all (field ∷ fields) body some is names short size =
     (field, behind, split, (refl, All-head (λ (f : Field). IsToken f.name) field fields names, omega arith, fields_room others (left - length (field_text field)) behind (fields, body) part))
 
 -- no fields: the body fills the bytes
-pub body_reads : (bytes : List ℕ) (left : ℕ) (stop : FieldError) → HasRoomForFields 0 left → ReadsPart (λ (piece : Bor (List ℕ)). piece.now) (IsBlockBetween (left - 4) (left - 4)) bytes (Err stop)
+pub body_reads : (bytes : List ℕ) (left : ℕ) (stop : FieldError) → HasRoomForFields 0 left → ReadsPart (λ (piece : Bor (List ℕ)). piece.now) (IsBlockOfLength (left - 4) (left - 4)) bytes (Err stop)
     → {B : Type 0} (seen : B → List Field × List ℕ) → ReadsPart seen (IsFieldsAndBody 0 left) bytes (Err stop)
 body_reads bytes left Open room (more, body, some, (is, low, high)) seen =
     let most = room.1 refl in
@@ -222,11 +222,11 @@ grown old new x same =
 
 -- one more item, at a number of fields that may be 0
 pub body_stops : {B : Type 0} (seen : B → List Field × List ℕ) (bytes : List ℕ) (count left : ℕ) (stop : FieldError) → count ≡ 0 → HasRoomForFields count left
-    → ReadsPart (λ (piece : Bor (List ℕ)). piece.now) (IsBlockBetween (left - 4) (left - 4)) bytes (Err stop) → ReadsPart seen (IsFieldsAndBody count left) bytes (Err stop)
+    → ReadsPart (λ (piece : Bor (List ℕ)). piece.now) (IsBlockOfLength (left - 4) (left - 4)) bytes (Err stop) → ReadsPart seen (IsFieldsAndBody count left) bytes (Err stop)
 body_stops seen bytes zero left stop none room reads = body_reads bytes left stop room reads seen
 body_stops seen bytes (suc count) left stop none room reads = absurd (omega arith)
 
-pub body_whole : (fields : List Field) (count left : ℕ) (front piece body : List ℕ) → count ≡ 0 → HasRoomForFields count left → IsBlockBetween (left - 4) (left - 4) front piece → body ≡ piece
+pub body_whole : (fields : List Field) (count left : ℕ) (front piece body : List ℕ) → count ≡ 0 → HasRoomForFields count left → IsBlockOfLength (left - 4) (left - 4) front piece → body ≡ piece
     → IsFieldsAndBody count left front (drop (length fields) fields, body)
 body_whole fields count left front piece body none room is same =
     let nothing : drop (length fields) fields ≡ [] = drop_all (length fields) fields (omega arith) in

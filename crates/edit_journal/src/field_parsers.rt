@@ -3,7 +3,7 @@ ghost use Rattle.std.specs.Prelude.{◌≡◌, ◌+◌, ◌≤◌, ◌<◌, ◌^
 ghost use Rattle.std.specs.Prelude.{IsTrue, ◌↔◌};
 ghost use Rattle.httparse.specs.Grammar.{is_token_byte, AllPass};
 ghost use Rattle.edit_journal.specs.inner.RecordParts.{ReadsPart, IsU32Between, IsU16Between};
-ghost use Rattle.edit_journal.specs.inner.RecordParts.{IsBlockBetween, IsTokenBlock};
+ghost use Rattle.edit_journal.specs.inner.RecordParts.{IsBlockOfLength, IsTokenBlock};
 ghost use Rattle.edit_journal.specs.inner.RecordParts.{padded_u32};
 ghost use Rattle.edit_journal.specs.inner.RecordParts.{padded_u16};
 
@@ -100,7 +100,7 @@ fn first_bytes(bytes: &[u8], count: usize) -> &[u8]
 pub(crate) fn read_block(bytes: &[u8], least: usize, most: usize) -> Result<&[u8], FieldError>
     requires nonempty { least ≤ most }
     requires fits { most < 2 ^ 32 }
-    ensures reads_rule { ReadsPart (λ piece. piece.now) (IsBlockBetween least most) bytes.now
+    ensures reads_rule { ReadsPart (λ piece. piece.now) (IsBlockOfLength least most) bytes.now
         result }
 {
     let len = read_u32(bytes, least, most)?;

@@ -2,6 +2,7 @@ pub mod Around
 pub mod LengthLemmas
 pub mod MoveLaws
 pub mod NodeLemmas
+pub mod NotePieces
 pub mod Operations
 pub mod SiteLemmas
 pub mod StageLemmas

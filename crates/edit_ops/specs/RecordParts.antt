@@ -1,5 +1,5 @@
--- Change records in two pieces, and changes of whole documents.
-use Rattle.std.specs.Prelude.{ℕ, Bool, List, ◌++◌}
+-- The parts of change records, and changes of whole documents.
+use Rattle.std.specs.Prelude.{ℕ, Bool, true, false, List, [], ◌∷◌}
 use Rattle.xml_names.specs.declared.names.Decl.{Decl}
 use Rattle.edit_ops.specs.declared.change.Change.{Change}
 use Rattle.edit_ops.specs.declared.change.Change.TheVariants.{CreateDocument, RemoveDocument}
@@ -9,9 +9,10 @@ abbrev pub made_note : ℕ → ℕ → List Decl → Change → Bool → Note
 made_note previous next bindings change fresh =
     record { previous = previous; next = next; bindings = bindings; change = change; fresh = fresh }
 
--- two pieces of a list of change records as one list
-abbrev pub all_notes : List Note → List Note → List Note
-all_notes older newer = older ++ newer
+-- whether there are no change records
+abbrev pub has_no_notes : List Note → Bool
+has_no_notes [] = true
+has_no_notes (n ∷ ns) = false
 
 -- the change creates or removes the whole document
 abbrev pub IsDocumentChange : Change → Type 0

@@ -160,7 +160,7 @@ impl EditNote {
 
     /// Its change, if nobody else shares the record; otherwise the record again. Does not
     /// allocate.
-    pub fn into_change(self) -> Result<Change, EditNote>
+    pub fn try_into_change(self) -> Result<Change, EditNote>
         ensures ok { IfOk result (λ change. change ≡ self.change) }
         ensures err_same { IfErr result (λ note. note ≡ self) }
     {

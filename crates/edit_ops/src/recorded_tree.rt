@@ -83,7 +83,7 @@ impl RecordedTree {
         ensures err_same { IfErr result (λ tree. tree ≡ self) }
     {
         let RecordedTree { note } = self;
-        match note.into_change() {
+        match note.try_into_change() {
             Ok(change) => Ok(into_element(change)),
             Err(note) => Err(RecordedTree { note }),
         }

@@ -6,7 +6,7 @@ use Rattle.node_select.specs.InsertionPoints.{IsLawfulInsertion, IsInsertionPlan
 use Rattle.doc_names.specs.declared.usages.Usage.{Usage}
 use Rattle.xml_tree.specs.Tree.{Tree, child_elements_of}
 use Rattle.node_select.specs.declared.selector.Step.{Step}
-use Rattle.node_select.specs.Selection.{is_named, is_tested}
+use Rattle.node_select.specs.Selection.{step_tests}
 use Rattle.usage_docs.specs.declared.schema_table.ElementKind.{ElementKind}
 use Rattle.usage_docs.specs.declared.key_repeats.Clash.{Clash}
 use Rattle.usage_docs.specs.SchemaTable.{Scope}
@@ -74,7 +74,7 @@ module _ (row : Option ElementKind) (c : Scope) (step : Step) (parent new : Tree
   V = FitsInsertionPoint row c parent.content new
 
   abbrev pub Chosen : Result ℕ NoInsertionPoint → Type 0
-  Chosen r = IsInsertionPlan Unlawful Invalid (IsLawfulInsertion (is_named c step) (is_tested c step) step.position (child_elements_of parent) new) V (length (child_elements_of parent) + 1) r
+  Chosen r = IsInsertionPlan Unlawful Invalid (IsLawfulInsertion (step_tests c step) (child_elements_of parent) new) V (length (child_elements_of parent) + 1) r
 
   pub placed_ok : (gap : ℕ) (result : Result ℕ EditRefusal) → Chosen (Ok gap) → IsNewChildResult (HasFormedReferences row c new) (record { kind = row; scope = c; elements = child_elements_of parent; path = q }) new gap result → IsInsertionResult (record { kind = row; scope = c; step = step; element = parent }) new q result
   placed_ok gap result chosen check_insertion = record { gap = Ok gap; is_chosen = chosen; then = check_insertion }

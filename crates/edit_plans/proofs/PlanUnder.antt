@@ -8,7 +8,7 @@ use Rattle.xml_tree.specs.Tree.{Tree, at, child_elements_of}
 use Rattle.xml_tree.specs.Edits.{put_in}
 use Rattle.xml_tree.specs.TreeScopes.{scope_at}
 use Rattle.node_select.specs.declared.selector.Step.{Step}
-use Rattle.node_select.specs.Selection.{SelectsPath, is_named, is_tested}
+use Rattle.node_select.specs.Selection.{SelectsPath, step_tests}
 use Rattle.node_select.proofs.Along.{path_there}
 use Rattle.usage_docs.specs.declared.schema_table.ElementKind.{ElementKind}
 use Rattle.usage_docs.specs.declared.validation.Fault.{Fault}
@@ -68,7 +68,7 @@ insertion_is : (u : Usage) (t parent new : Tree) (q : List ℕ) (first : Step) (
     → IsInsertionResult (record { kind = kind_at u t q; scope = scope_at q t; step = s; element = parent }) new q placed → IsElementInsertion (record { usage = u; document = t; steps = first ∷ (steps ++ s ∷ []) }) q new (element_insertion q new placed)
 insertion_is u t parent new q first steps s placed there faultless selects h =
     let many = length (child_elements_of parent) in
-    let L = IsLawfulInsertion (is_named (scope_at q t) s) (is_tested (scope_at q t) s) s.position (child_elements_of parent) new in
+    let L = IsLawfulInsertion (step_tests (scope_at q t) s) (child_elements_of parent) new in
     let V = FitsInsertionPoint (kind_at u t q) (scope_at q t) parent.content new in
     let all = first ∷ (steps ++ s ∷ []) in
     let V' : ℕ → Type 0 = λ j. usage.IsValidDocument u (put_in q j new t) in

@@ -4,11 +4,11 @@ use Rattle.std.proofs.lemmas.Bool.{cases_lt, cases_order}
 use Rattle.std.proofs.lemmas.Option.{same_Some, slice_get_within}
 use Rattle.std.specs.Option.{ForSome}
 use Rattle.node_select.specs.Edits.{IsNextMatch}
-use Rattle.node_select.specs.StepSelection.{Matches, Selects}
+use Rattle.node_select.specs.StepSelection.{StepTests, Matches}
 use Rattle.node_select.proofs.EditedSelection.{removed_none, removed_next}
 use Rattle.xml_tree.specs.Tree.{Content, Tree, child_elements}
 use Rattle.node_select.specs.declared.selector.Step.{Step}
-use Rattle.node_select.specs.Selection.{SelectsChild, is_named, is_tested}
+use Rattle.node_select.specs.Selection.{SelectsChild, step_tests}
 use Rattle.usage_docs.specs.declared.schema_table.ElementKind.{ElementKind}
 use Rattle.usage_docs.specs.SchemaTable.{Scope}
 use Rattle.usage_docs.specs.readers.ContentParts.{may_follow, end_part}
@@ -21,18 +21,18 @@ use Rattle.edit_plans.proofs.SideLemmas.{after_end, after_kid}
 
 -- ---- the next match
 
-module _ {A : Type 0} (named tested : A → Bool) (xs : List A) (j : ℕ) where
+module _ {A : Type 0} (step : StepTests A) (xs : List A) (j : ℕ) where
   -- between the removed one and the i-th none has the name
   abbrev pub NoneNamed : ℕ → Type 0
-  NoneNamed i = (k : ℕ) (x : A) → j < k → k < i → slice_get xs k ≡ Some x → named x ≡ false
+  NoneNamed i = (k : ℕ) (x : A) → j < k → k < i → slice_get xs k ≡ Some x → step.named x ≡ false
 
-  pub no_next : (i : ℕ) → length xs ≤ i → NoneNamed i → (n : ℕ) × IsNextMatch named tested (remove xs j) j n → ⊥
+  pub no_next : (i : ℕ) → length xs ≤ i → NoneNamed i → (n : ℕ) × IsNextMatch step (remove xs j) j n → ⊥
   no_next i end_is none (n, m) =
       let there = sym ((get_removed xs j n).1 m.not_before) ∙ m.there in
-      true_false (named m.child_element) m.is_named (none (suc n) m.child_element (let le = m.not_before in omega arith) (let lt = slice_get_within xs (suc n) m.child_element there in omega arith) there)
+      true_false (step.named m.child_element) m.is_named (none (suc n) m.child_element (let le = m.not_before in omega arith) (let lt = slice_get_within xs (suc n) m.child_element there in omega arith) there)
 
   -- the i-th is the first that has the name
-  module _ (i : ℕ) (x : A) (behind : j < i) (there : slice_get xs i ≡ Some x) (is_named : IsTrue (named x)) (none : NoneNamed i) where
+  module _ (i : ℕ) (x : A) (behind : j < i) (there : slice_get xs i ≡ Some x) (is_named : IsTrue (step.named x)) (none : NoneNamed i) where
     here : (n : ℕ) × ((suc n ≡ i) × (j ≤ n))
     here = by i behind
       where
@@ -44,7 +44,7 @@ module _ {A : Type 0} (named tested : A → Bool) (xs : List A) (j : ℕ) where
     unfolding here
     there_now = (get_removed xs j here.0).1 here.1.1 ∙ ap (slice_get xs) here.1.0 ∙ there
 
-    pub next_is : IsTrue (tested x) → (n : ℕ) × IsNextMatch named tested (remove xs j) j n
+    pub next_is : IsTrue (step.tested x) → (n : ℕ) × IsNextMatch step (remove xs j) j n
     unfolding here
     next_is t = (
       here.0,
@@ -58,53 +58,44 @@ module _ {A : Type 0} (named tested : A → Bool) (xs : List A) (j : ℕ) where
       },
     )
 
-    pub next_tested : (n : ℕ) × IsNextMatch named tested (remove xs j) j n → IsTrue (tested x)
+    pub next_tested : (n : ℕ) × IsNextMatch step (remove xs j) j n → IsTrue (step.tested x)
     unfolding here
     next_tested (n, m) = by (cases_order n here.0)
       where
-        by : (n ≡ here.0) ⊎ ((n < here.0) ⊎ (here.0 < n)) → IsTrue (tested x)
-        by (inl same) = let child_element : m.child_element ≡ x = same_Some _ _ (sym m.there ∙ ap (slice_get (remove xs j)) same ∙ there_now) in ap tested (sym child_element) ∙ m.is_tested
+        by : (n ≡ here.0) ⊎ ((n < here.0) ⊎ (here.0 < n)) → IsTrue (step.tested x)
+        by (inl same) = let child_element : m.child_element ≡ x = same_Some _ _ (sym m.there ∙ ap (slice_get (remove xs j)) same ∙ there_now) in ap step.tested (sym child_element) ∙ m.is_tested
         by (inr (inl lt)) =
             let at = sym ((get_removed xs j n).1 m.not_before) ∙ m.there in
-            absurd (true_false (named m.child_element) m.is_named (none (suc n) m.child_element (let le = m.not_before in omega arith) (let e = here.1.0 in omega arith) at))
-        by (inr (inr lt)) = absurd (true_false (named x) is_named (m.first here.0 x here.1.1 lt there_now))
+            absurd (true_false (step.named m.child_element) m.is_named (none (suc n) m.child_element (let le = m.not_before in omega arith) (let e = here.1.0 in omega arith) at))
+        by (inr (inr lt)) = absurd (true_false (step.named x) is_named (m.first here.0 x here.1.1 lt there_now))
 
 -- ---- what is still selected
 
 pub none_still : (c : Scope) (step : Step) (child_elements : List Tree) (j : ℕ) → step.position ≡ None → SelectsChild c step child_elements j → StillSelectsChild c step child_elements j → ⊥
-none_still c step child_elements j none s h =
-    let was = subst (λ (p : Option ℕ). Selects (is_named c step) (is_tested c step) p child_elements j) none s in
-    let now = subst (λ (p : Option ℕ). Selects (is_named c step) (is_tested c step) p (remove child_elements j) h.0) none h.1 in
-    removed_none (is_named c step) (is_tested c step) child_elements j h.0 was now.this
+none_still c step child_elements j none s h = removed_none (step_tests c step) child_elements j h.0 none s h.1.this
 
-one_next : {A : Type 0} (named tested : A → Bool) (xs : List A) (j i k : ℕ) → IsNextMatch named tested xs j i → IsNextMatch named tested xs j k → k ≡ i
-one_next named tested xs j i k a b = by (cases_order k i)
+one_next : {A : Type 0} (step : StepTests A) (xs : List A) (j i k : ℕ) → IsNextMatch step xs j i → IsNextMatch step xs j k → k ≡ i
+one_next step xs j i k a b = by (cases_order k i)
   where
     by : (k ≡ i) ⊎ ((k < i) ⊎ (i < k)) → k ≡ i
     by (inl same) = same
-    by (inr (inl lt)) = absurd (true_false (named b.child_element) b.is_named (a.first k b.child_element b.not_before lt b.there))
-    by (inr (inr lt)) = absurd (true_false (named a.child_element) a.is_named (b.first i a.child_element a.not_before lt a.there))
+    by (inr (inl lt)) = absurd (true_false (step.named b.child_element) b.is_named (a.first k b.child_element b.not_before lt b.there))
+    by (inr (inr lt)) = absurd (true_false (step.named a.child_element) a.is_named (b.first i a.child_element a.not_before lt a.there))
 
-pub still_by_next : (c : Scope) (step : Step) (child_elements : List Tree) (j n : ℕ) → step.position ≡ Some n → SelectsChild c step child_elements j → StillSelectsChild c step child_elements j ↔ ((i : ℕ) × IsNextMatch (is_named c step) (is_tested c step) (remove child_elements j) j i)
+pub still_by_next : (c : Scope) (step : Step) (child_elements : List Tree) (j n : ℕ) → step.position ≡ Some n → SelectsChild c step child_elements j → StillSelectsChild c step child_elements j ↔ ((i : ℕ) × IsNextMatch (step_tests c step) (remove child_elements j) j i)
 still_by_next c step child_elements j n is s = (
-  λ h. (h.0, (next h.0).0 (subst (λ (p : Option ℕ). Selects N T p (remove child_elements j) h.0) is h.1).this),
+  λ h. (h.0, (next h.0).0 h.1.this),
   λ h. (
     h.0,
-    subst (λ (p : Option ℕ). Selects N T p (remove child_elements j) h.0) (sym is) (record {
+    record {
       this = (next h.0).1 h.1;
-      alone = λ k m. one_next N T (remove child_elements j) j h.0 k h.1 ((next k).0 m);
-    }),
+      alone = λ k m. one_next (step_tests c step) (remove child_elements j) j h.0 k h.1 ((next k).0 m);
+    },
   ),
 )
   where
-    N : Tree → Bool
-    N = is_named c step
-
-    T : Tree → Bool
-    T = is_tested c step
-
-    next : (i : ℕ) → Matches (is_named c step) (is_tested c step) (Some n) (remove child_elements j) i ↔ IsNextMatch (is_named c step) (is_tested c step) (remove child_elements j) j i
-    next i = removed_next (is_named c step) (is_tested c step) n child_elements j i (subst (λ (p : Option ℕ). Selects (is_named c step) (is_tested c step) p child_elements j) is s)
+    next : (i : ℕ) → Matches (step_tests c step) (remove child_elements j) i ↔ IsNextMatch (step_tests c step) (remove child_elements j) j i
+    next i = removed_next (step_tests c step) n child_elements j i is s
 
 -- ---- the neighbours
 
@@ -125,14 +116,14 @@ closes_by row c content j kind left right b is low high test =
     )
 
 -- one more child that isn't the next match
-pub none_more_named : {A : Type 0} (named tested : A → Bool) (xs : List A) (j i i' : ℕ) (x : A) (b : Bool) → i' ≡ i + 1 → slice_get xs i ≡ Some x → IsTrue b ↔ ((j < i) × IsTrue (named x)) → b ≡ false → NoneNamed named tested xs j i → NoneNamed named tested xs j i'
-none_more_named named tested xs j i i' x b next there test fails none k y low lt at =
+pub none_more_named : {A : Type 0} (step : StepTests A) (xs : List A) (j i i' : ℕ) (x : A) (b : Bool) → i' ≡ i + 1 → slice_get xs i ≡ Some x → IsTrue b ↔ ((j < i) × IsTrue (step.named x)) → b ≡ false → NoneNamed step xs j i → NoneNamed step xs j i'
+none_more_named step xs j i i' x b next there test fails none k y low lt at =
     elim (cases_lt k i) [
       | inl below ↦ none k y low below at
       | inr from ↦ (
           let same : k ≡ i = omega arith in
           let child_element : y ≡ x = same_Some _ _ (sym at ∙ ap (slice_get xs) same ∙ there) in
-          ap named child_element ∙ not_named (named x) (λ n. true_false b (test.1 ((omega arith), n)) fails))
+          ap step.named child_element ∙ not_named (step.named x) (λ n. true_false b (test.1 ((omega arith), n)) fails))
     ]
   where
     not_named : (p : Bool) → (IsTrue p → ⊥) → p ≡ false

@@ -5,9 +5,10 @@ use Rattle.std.proofs.Common.{◌≡◌, ◌↔◌, ◌≤◌, ◌<◌, ◌+◌,
 use Rattle.std.specs.Option.{ForSome}
 use Rattle.std.proofs.lemmas.Option.{same_Some, none-some, slice_get_within}
 use Rattle.std.proofs.lemmas.Bool.{cases_lt}
-use Rattle.node_select.specs.StepSelection.{IsAtPosition, Matches, is_at_position}
+use Rattle.node_select.specs.StepSelection.{StepTests, Matches, is_at_position}
+use Rattle.edit_plans.specs.inner.ChildChangeResults.{without_position}
 use Rattle.node_select.specs.InsertionPoints.{AllowsInsertion, IsLawfulInsertion, IsInsertionPlan}
-use Rattle.node_select.proofs.SelectionAgreement.{is_at_position_is}
+use Rattle.node_select.proofs.SelectionAgreement.{any_position, is_at_position_is}
 use Rattle.node_select.proofs.GapLaws.{lawful_by_count, lawful_free}
 use Rattle.xml_tree.specs.Tree.{Content, last, more, comment_node, Tree, tree_of, child_elements}
 use Rattle.usage_docs.specs.declared.schema_table.ElementKind.{ElementKind}
@@ -89,11 +90,11 @@ over_is (Some kind) c content new i itself valid before part after v p b a is =
 
 -- ---- the number before an insertion point decides, where the rest is known
 
-pub lawful_here : (named tested : Tree → Bool) (position : Option ℕ) (xs : List Tree) (e : Tree) (gap before : ℕ) (lawful : Bool) → gap ≤ length xs → IsTrue (named e) → IsTrue (tested e) → AllowsInsertion named tested position xs → before ≡ count_by named (take gap xs)
-    → lawful ≡ is_at_position position before → IsTrue lawful ↔ IsLawfulInsertion named tested position xs e gap
-lawful_here named tested position xs e gap before lawful le n t free counted is =
-    let p = is_at_position_is position before in
-    let l = lawful_by_count named tested position xs e gap before le n t free counted in
+pub lawful_here : (step : StepTests Tree) (xs : List Tree) (e : Tree) (gap before : ℕ) (lawful : Bool) → gap ≤ length xs → IsTrue (step.named e) → IsTrue (step.tested e) → AllowsInsertion step xs → before ≡ count_by step.named (take gap xs)
+    → lawful ≡ is_at_position step.position before → IsTrue lawful ↔ IsLawfulInsertion step xs e gap
+lawful_here step xs e gap before lawful le n t free counted is =
+    let p = is_at_position_is step.position before in
+    let l = lawful_by_count step xs e gap before le n t free counted in
     (λ h. l.0 (p.0 (sym is ∙ h)), λ h. is ∙ p.1 (l.1 h))
 
 -- ---- no insertion point is lawful
@@ -101,59 +102,64 @@ lawful_here named tested position xs e gap before lawful le n t free counted is 
 none_planned : {E : Type 0} (unlawful invalid : E) (L V : ℕ → Type 0) (many : ℕ) → ((k : ℕ) → k < many + 1 → L k → ⊥) → IsInsertionPlan unlawful invalid L V (many + 1) (Err unlawful)
 none_planned unlawful invalid L V many h = inl (refl, record { none = h })
 
-module _ {E : Type 0} (unlawful invalid : E) (named tested : Tree → Bool) (position : Option ℕ) (xs : List Tree) (e : Tree) (V : ℕ → Type 0) where
-  pub not_free : (AllowsInsertion named tested position xs → ⊥) → IsInsertionPlan unlawful invalid (IsLawfulInsertion named tested position xs e) V (length xs + 1) (Err unlawful)
-  not_free no_room = none_planned unlawful invalid (IsLawfulInsertion named tested position xs e) V (length xs) (λ k lt l. no_room (lawful_free named tested position xs e k (omega arith) l))
+module _ {E : Type 0} (unlawful invalid : E) (step : StepTests Tree) (xs : List Tree) (e : Tree) (V : ℕ → Type 0) where
+  pub not_free : (AllowsInsertion step xs → ⊥) → IsInsertionPlan unlawful invalid (IsLawfulInsertion step xs e) V (length xs + 1) (Err unlawful)
+  not_free no_room = none_planned unlawful invalid (IsLawfulInsertion step xs e) V (length xs) (λ k lt l. no_room (lawful_free step xs e k (omega arith) l))
 
 -- ---- the last insertion point of all, where the step has no position
 
-pub last_of_all : {E : Type 0} (unlawful invalid : E) (named tested : Tree → Bool) (position : Option ℕ) (xs : List Tree) (e : Tree) (V : ℕ → Type 0) (many : ℕ) → many ≡ length xs → position ≡ None → IsTrue (named e) → IsTrue (tested e) → AllowsInsertion named tested position xs → V many
-    → IsInsertionPlan unlawful invalid (IsLawfulInsertion named tested position xs e) V (length xs + 1) (Ok many)
-last_of_all unlawful invalid named tested position xs e V many same none n t free fits =
-    let before = count_by named (take many xs) in
-    let l = lawful_by_count named tested position xs e many before (omega arith) n t free refl in
+pub last_of_all : {E : Type 0} (unlawful invalid : E) (step : StepTests Tree) (xs : List Tree) (e : Tree) (V : ℕ → Type 0) (many : ℕ) → many ≡ length xs → step.position ≡ None → IsTrue (step.named e) → IsTrue (step.tested e) → AllowsInsertion step xs → V many
+    → IsInsertionPlan unlawful invalid (IsLawfulInsertion step xs e) V (length xs + 1) (Ok many)
+last_of_all unlawful invalid step xs e V many same none n t free fits =
+    let before = count_by step.named (take many xs) in
+    let l = lawful_by_count step xs e many before (omega arith) n t free refl in
     record {
       within = omega arith;
-      is_lawful = l.0 (subst (λ (p : Option ℕ). IsAtPosition p before) (sym none) tt);
+      is_lawful = l.0 (any_position step.position before none);
       is_valid = fits;
       last = λ k lt lawful valid. omega arith;
     }
 
 -- ---- whether some child passes both tests
 
-pub match_of : {A : Type 0} (named tested : A → Bool) (xs : List A) (i : ℕ) (x : A) → slice_get xs i ≡ Some x → IsTrue (named x) → IsTrue (tested x) → Matches named tested None xs i
-match_of named tested xs i x there n t = record { child_element = x; there = there; is_named = n; at_position = tt; is_tested = t }
+pub match_of : {A : Type 0} (step : StepTests A) (xs : List A) (i : ℕ) (x : A) → slice_get xs i ≡ Some x → IsTrue (step.named x) → IsTrue (step.tested x) → Matches (without_position step) xs i
+match_of step xs i x there n t = record { child_element = x; there = there; is_named = n; at_position = tt; is_tested = t }
+
+-- where the step has no position, it may be left out
+at_any_position : {A : Type 0} (step : StepTests A) (xs : List A) (i : ℕ) → Matches step xs i → Matches (without_position step) xs i
+at_any_position step xs i m = record { child_element = m.child_element; there = m.there; is_named = m.is_named; at_position = tt; is_tested = m.is_tested }
+
+at_position : {A : Type 0} (step : StepTests A) (xs : List A) (i : ℕ) → step.position ≡ None → Matches (without_position step) xs i → Matches step xs i
+at_position step xs i none m = record { child_element = m.child_element; there = m.there; is_named = m.is_named; at_position = any_position step.position _ none; is_tested = m.is_tested }
 
 -- none of the first n
-abbrev pub NoneUpTo : {A : Type 0} → (A → Bool) → (A → Bool) → List A → ℕ → Type 0
-NoneUpTo named tested xs n = (k : ℕ) → k < n → Matches named tested None xs k → ⊥
+abbrev pub NoneUpTo : {A : Type 0} → StepTests A → List A → ℕ → Type 0
+NoneUpTo step xs n = (k : ℕ) → k < n → Matches (without_position step) xs k → ⊥
 
-pub none_more : {A : Type 0} (named tested : A → Bool) (xs : List A) (i i' : ℕ) (x : A) → i' ≡ i + 1 → slice_get xs i ≡ Some x → (IsTrue (named x) × IsTrue (tested x) → ⊥) → NoneUpTo named tested xs i → NoneUpTo named tested xs i'
-none_more named tested xs i i' x next there fails none k lt m =
+pub none_more : {A : Type 0} (step : StepTests A) (xs : List A) (i i' : ℕ) (x : A) → i' ≡ i + 1 → slice_get xs i ≡ Some x → (IsTrue (step.named x) × IsTrue (step.tested x) → ⊥) → NoneUpTo step xs i → NoneUpTo step xs i'
+none_more step xs i i' x next there fails none k lt m =
     elim (cases_lt k i) [
       | inl below ↦ none k below m
       | inr from ↦ (
           let same : k ≡ i = omega arith in
           let child_element : m.child_element ≡ x = same_Some _ _ (sym m.there ∙ ap (slice_get xs) same ∙ there) in
-          fails (ap named (sym child_element) ∙ m.is_named, ap tested (sym child_element) ∙ m.is_tested))
+          fails (ap step.named (sym child_element) ∙ m.is_named, ap step.tested (sym child_element) ∙ m.is_tested))
     ]
 
-pub none_at_all : {A : Type 0} (named tested : A → Bool) (xs : List A) (n : ℕ) → n ≡ length xs → NoneUpTo named tested xs n → (k : ℕ) × Matches named tested None xs k → ⊥
-none_at_all named tested xs n end_part none (k, m) = none k (let lt = slice_get_within xs k m.child_element m.there in omega arith) m
+pub none_at_all : {A : Type 0} (step : StepTests A) (xs : List A) (n : ℕ) → n ≡ length xs → NoneUpTo step xs n → (k : ℕ) × Matches (without_position step) xs k → ⊥
+none_at_all step xs n end_part none (k, m) = none k (let lt = slice_get_within xs k m.child_element m.there in omega arith) m
 
 -- a plan at equal numbers and results
 pub plan_at : {E : Type 0} (unlawful invalid : E) (L V : ℕ → Type 0) (n n' : ℕ) (r r' : Result ℕ E) → n' ≡ n → r' ≡ r → IsInsertionPlan unlawful invalid L V n r → IsInsertionPlan unlawful invalid L V n' r'
 plan_at {E = E} unlawful invalid L V n n' r r' sn sr h = subst (λ (k : ℕ). IsInsertionPlan unlawful invalid L V k r') (sym sn) (subst (λ (x : Result ℕ E). IsInsertionPlan unlawful invalid L V n x) (sym sr) h)
 
 -- the test that no other child keeps the new one from being selected
-pub free_none : (named tested : Tree → Bool) (position : Option ℕ) (xs : List Tree) (some free : Bool) → position ≡ None → free ≡ not some → IsTrue some ↔ ((k : ℕ) × Matches named tested None xs k) → IsTrue free ↔ AllowsInsertion named tested position xs
-free_none named tested position xs true free none is found =
-    subst (λ (p : Option ℕ). IsTrue free ↔ AllowsInsertion named tested p xs) (sym none) (
-      λ h. let z : true ≡ false = sym h ∙ is in cc,
-      λ f. let m = found.0 refl in absurd (f m.0 m.1),
-    )
-free_none named tested position xs false free none is found =
-    subst (λ (p : Option ℕ). IsTrue free ↔ AllowsInsertion named tested p xs) (sym none) (
-      λ h k m. true_false false (found.1 (k, m)) refl,
-      λ f. is,
-    )
+pub free_none : (step : StepTests Tree) (xs : List Tree) (some free : Bool) → step.position ≡ None → free ≡ not some → IsTrue some ↔ ((k : ℕ) × Matches (without_position step) xs k) → IsTrue free ↔ AllowsInsertion step xs
+free_none step xs true free none is found = (
+  λ h. let z : true ≡ false = sym h ∙ is in cc,
+  λ f. let m = found.0 refl in absurd (f none m.0 (at_position step xs m.0 none m.1)),
+)
+free_none step xs false free none is found = (
+  λ h none' k m. true_false false (found.1 (k, at_any_position step xs k m)) refl,
+  λ f. is,
+)

@@ -8,8 +8,9 @@ ghost use Rattle.node_select.specs.InsertionPoints.{AllowsInsertion, IsLawfulIns
 ghost use Rattle.node_select.specs.InsertionPoints.{IsInsertionPlan};
 ghost use Rattle.node_select.specs.InsertionPoints.{plan_with_gap};
 ghost use Rattle.xml_tree.specs.Tree.{child_elements_of};
-ghost use Rattle.node_select.specs.Selection.{is_named, is_tested};
+ghost use Rattle.node_select.specs.Selection.{is_named, is_tested, step_tests};
 ghost use Rattle.usage_docs.specs.Validity.{IsValidChild};
+ghost use Rattle.edit_plans.specs.inner.ChildChangeResults.{without_position};
 ghost use Rattle.edit_plans.specs.inner.Neighbours.{FitsInsertionPoint, fits_between, part_in};
 ghost use Rattle.edit_plans.specs.declared.insertion_points.NoInsertionPoint.TheVariants.{Unlawful};
 ghost use Rattle.edit_plans.specs.declared.insertion_points.NoInsertionPoint.TheVariants.{Invalid};
@@ -120,8 +121,7 @@ fn count_if(before: u64, more: bool) -> u64
 // Whether any child passes both tests of a step.
 fn any_passes(alloc: Global, parent: &Parent<'_>, step: &Step) -> bool
     ensures exact { IsTrue result
-        ↔ ((k : ℕ) × Matches (is_named parent.now.scope.now step.now)
-        (is_tested parent.now.scope.now step.now) None
+        ↔ ((k : ℕ) × Matches (without_position (step_tests parent.now.scope.now step.now))
         (child_elements_of parent.now.element.now) k) }
 {
     let mut i: usize = 0;
@@ -140,8 +140,7 @@ fn any_passes(alloc: Global, parent: &Parent<'_>, step: &Step) -> bool
 // child passes both tests.
 fn can_be_selected(alloc: Global, parent: &Parent<'_>, step: &Step) -> bool
     ensures exact { IsTrue result
-        ↔ AllowsInsertion (is_named parent.now.scope.now step.now)
-        (is_tested parent.now.scope.now step.now) step.now.position
+        ↔ AllowsInsertion (step_tests parent.now.scope.now step.now)
         (child_elements_of parent.now.element.now) }
 {
     match step.position {
@@ -216,14 +215,12 @@ fn greatest_gap(
 ) -> Result<usize, NoInsertionPoint>
     requires name_matches { IsTrue (is_named parent.now.scope.now step.now new.now) }
     requires test_matches { IsTrue (is_tested parent.now.scope.now step.now new.now) }
-    requires position_free { AllowsInsertion (is_named parent.now.scope.now step.now)
-        (is_tested parent.now.scope.now step.now) step.now.position
+    requires position_free { AllowsInsertion (step_tests parent.now.scope.now step.now)
         (child_elements_of parent.now.element.now) }
     requires itself_valid { ForSome parent.now.kind
         (λ kind. IsTrue itself ↔ IsValidChild kind parent.now.scope.now new.now) }
     ensures lawful_plan { IsInsertionPlan Unlawful Invalid
-        (IsLawfulInsertion (is_named parent.now.scope.now step.now)
-        (is_tested parent.now.scope.now step.now) step.now.position
+        (IsLawfulInsertion (step_tests parent.now.scope.now step.now)
         (child_elements_of parent.now.element.now) new.now)
         (FitsInsertionPoint parent.now.kind parent.now.scope.now parent.now.element.now.content
         new.now)
@@ -246,14 +243,12 @@ fn last_gap(
 ) -> Result<usize, NoInsertionPoint>
     requires name_matches { IsTrue (is_named parent.now.scope.now step.now new.now) }
     requires test_matches { IsTrue (is_tested parent.now.scope.now step.now new.now) }
-    requires position_free { AllowsInsertion (is_named parent.now.scope.now step.now)
-        (is_tested parent.now.scope.now step.now) step.now.position
+    requires position_free { AllowsInsertion (step_tests parent.now.scope.now step.now)
         (child_elements_of parent.now.element.now) }
     requires itself_valid { ForSome parent.now.kind
         (λ kind. IsTrue itself ↔ IsValidChild kind parent.now.scope.now new.now) }
     ensures lawful_plan { IsInsertionPlan Unlawful Invalid
-        (IsLawfulInsertion (is_named parent.now.scope.now step.now)
-        (is_tested parent.now.scope.now step.now) step.now.position
+        (IsLawfulInsertion (step_tests parent.now.scope.now step.now)
         (child_elements_of parent.now.element.now) new.now)
         (FitsInsertionPoint parent.now.kind parent.now.scope.now parent.now.element.now.content
         new.now)
@@ -292,8 +287,7 @@ pub(crate) fn choose_gap(
     new: &Element,
 ) -> Result<usize, NoInsertionPoint>
     ensures lawful_plan { IsInsertionPlan Unlawful Invalid
-        (IsLawfulInsertion (is_named parent.now.scope.now step.now)
-        (is_tested parent.now.scope.now step.now) step.now.position
+        (IsLawfulInsertion (step_tests parent.now.scope.now step.now)
         (child_elements_of parent.now.element.now) new.now)
         (FitsInsertionPoint parent.now.kind parent.now.scope.now parent.now.element.now.content
         new.now)

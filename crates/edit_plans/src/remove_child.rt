@@ -3,7 +3,7 @@ ghost use Rattle.std.specs.Prelude.{◌≡◌, ◌↔◌, ◌<◌, ◌≤◌, �
 ghost use Rattle.std.specs.Option.{ForSome};
 ghost use Rattle.node_select.specs.Edits.{IsNextMatch};
 ghost use Rattle.xml_tree.specs.Tree.{child_elements_of};
-ghost use Rattle.node_select.specs.Selection.{SelectsChild, is_named, is_tested};
+ghost use Rattle.node_select.specs.Selection.{SelectsChild, is_named, step_tests};
 ghost use Rattle.usage_docs.specs.readers.NeighbourParts.{part_before, part_after};
 ghost use Rattle.edit_rules.specs.Removals.{NeighboursMayMeet, StillSelectsChild};
 ghost use Rattle.edit_plans.specs.inner.ChildChangeResults.{IsRemovalResult, IsSelectedChild};
@@ -39,8 +39,7 @@ fn is_next(
 fn next_passes(alloc: Global, parent: &Parent<'_>, step: &Step, child: usize) -> bool
     requires { child < length (child_elements_of parent.now.element.now) }
     ensures exact { IsTrue result
-        ↔ ((i : ℕ) × IsNextMatch (is_named parent.now.scope.now step.now)
-        (is_tested parent.now.scope.now step.now)
+        ↔ ((i : ℕ) × IsNextMatch (step_tests parent.now.scope.now step.now)
         (remove (child_elements_of parent.now.element.now) child) child i) }
 {
     let mut i: usize = 0;

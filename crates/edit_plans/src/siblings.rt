@@ -45,7 +45,7 @@ fn kind_of_child(
 }
 
 // Whether two element kinds are equal.
-fn is_kind(a: ElementKind, b: ElementKind) -> bool
+fn same_kind(a: ElementKind, b: ElementKind) -> bool
     ensures exact { IsTrue result ↔ (a ≡ b) }
 {
     a == b
@@ -84,7 +84,7 @@ fn has_sibling_key(
     let Some(own) = kind_of_child(alloc, row, scope, child_element) else {
         return false;
     };
-    is_kind(own, kind)
+    same_kind(own, kind)
 }
 
 // Whether it is the child that is left out.

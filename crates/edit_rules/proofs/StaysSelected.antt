@@ -13,7 +13,7 @@ use Rattle.xml_names.specs.declared.names.Decl.{Decl}
 use Rattle.xml_tree.proofs.PlaceLaws.{at-changed, child_elements-put, change_at-append}
 use Rattle.xml_tree.proofs.TreeScopeLemmas.{scope_at-below}
 use Rattle.node_select.specs.declared.selector.Step.{Step}
-use Rattle.node_select.specs.Selection.{is_named, is_tested, SelectsChild, SelectsAmong, SelectsPath}
+use Rattle.node_select.specs.Selection.{is_named, is_tested, step_tests, SelectsChild, SelectsAmong, SelectsPath}
 use Rattle.node_select.proofs.Along.{last_step_to, last_step_from}
 use Rattle.edit_rules.specs.LawfulInsertions.{KeepsStartTag, IsLawfulGap, IsLawfulReplacement}
 
@@ -35,8 +35,9 @@ answers_stay p g h zero (more t m ds ats k rest) = ap (λ b. b ∷ map p (child_
 answers_stay p g h (suc n) (more t m ds ats k rest) = ap (λ bs. p (tree_of m ds ats k) ∷ bs) (answers_stay p g h n rest)
 answers_stay p g h n (comment_node t x rest) = answers_stay p g h n rest
 
-alike : (c : List (List Decl)) (s : Step) (g : Tree → Tree) → KeepsStartTag g → (n : ℕ) (content : Content) → HaveSameTestResults (is_named c s) (is_tested c s) (is_named c s) (is_tested c s) (child_elements content) (child_elements (change_element n g content))
+alike : (c : List (List Decl)) (s : Step) (g : Tree → Tree) → KeepsStartTag g → (n : ℕ) (content : Content) → HaveSameTestResults (step_tests c s) (step_tests c s) (child_elements content) (child_elements (change_element n g content))
 alike c s g k n content = record {
+  same_position = refl;
   same_named = sym (answers_stay (is_named c s) g (λ child_element. ap (is_named c s) (k child_element)) n content);
   same_tested = sym (answers_stay (is_tested c s) g (λ child_element. ap (is_tested c s) (k child_element)) n content);
 }
@@ -52,7 +53,7 @@ stays_below (s ∷ steps) c e [] f k h = absurd h
 stays_below (s ∷ steps) c e (n ∷ q) f k h =
     let child_element = h.1.0 in
     let g = change_at q f in (
-      (select_alike (is_named c s) (is_tested c s) (is_named c s) (is_tested c s) s.position (child_elements_of e) (child_elements (change_element n g e.content)) n (alike c s g (keeps_at q f k) n e.content)).0 h.0,
+      (select_alike (step_tests c s) (step_tests c s) (child_elements_of e) (child_elements (change_element n g e.content)) n (alike c s g (keeps_at q f k) n e.content)).0 h.0,
       (
         g child_element,
         kid_changed n g e.content ∙ ap (option_map g) h.1.1,
@@ -69,7 +70,8 @@ stays_selected first steps root q f k h =
     let g = change_at q f in
     let keeps = keeps_at q f k in
     let below = subst (λ (t : Tree). SelectsAmong (inside [] t) (child_elements_of t) steps q) (root_kid root h.1.0 h.1.1) h.1.2 in (
-      (select_alike (is_named [] first) (is_tested [] first) (is_named [] first) (is_tested [] first) first.position (root ∷ []) (g root ∷ []) 0 (record {
+      (select_alike (step_tests [] first) (step_tests [] first) (root ∷ []) (g root ∷ []) 0 (record {
+        same_position = refl;
         same_named = ap (λ (b : Bool). b ∷ []) (sym (ap (is_named [] first) (keeps root)));
         same_tested = ap (λ (b : Bool). b ∷ []) (sym (ap (is_tested [] first) (keeps root)));
       })).0 h.0,
@@ -121,10 +123,10 @@ last_step_after first steps s root parent q f i k sel there =
 -- a gap is lawful exactly when the last step selects the new element among the children of the
 -- parent
 pub lawful_gap : (first : Step) (steps : List Step) (s : Step) (root parent e : Tree) (q : List ℕ) (gap : ℕ) → SelectsPath (first ∷ steps) root q → at q root ≡ Some parent → gap ≤ length (child_elements_of parent)
-    → IsLawfulGap (first ∷ (steps ++ s ∷ [])) root e q gap ↔ IsLawfulInsertion (is_named (scope_at q root) s) (is_tested (scope_at q root) s) s.position (child_elements_of parent) e gap
+    → IsLawfulGap (first ∷ (steps ++ s ∷ [])) root e q gap ↔ IsLawfulInsertion (step_tests (scope_at q root) s) (child_elements_of parent) e gap
 lawful_gap first steps s root parent e q gap sel there le =
     let c = scope_at q root in
-    subst (λ (xs : List Tree). SelectsPath (first ∷ (steps ++ s ∷ [])) (put_in q gap e root) (q ++ gap ∷ []) ↔ Selects (is_named c s) (is_tested c s) s.position xs gap)
+    subst (λ (xs : List Tree). SelectsPath (first ∷ (steps ++ s ∷ [])) (put_in q gap e root) (q ++ gap ∷ []) ↔ Selects (step_tests c s) xs gap)
     (child_elements-put gap e parent.content le)
     (last_step_after first steps s root parent q (put_kid gap e) gap (λ x. refl) sel there)
 
@@ -149,7 +151,7 @@ lawful_over first steps s root e q i sel =
     let there = last_step_after first steps s root parent q f i (λ x. refl) old.0 old.1.there in
     let same : put_over (q ++ i ∷ []) e root ≡ change_at q f root = change_at-append q (i ∷ []) (λ _. e) root in
     let kids_are : child_elements_of (f parent) ≡ set (child_elements_of parent) i e = child_elements-over i e parent.content in
-    let r = replaced (is_named c s) (is_tested c s) s.position (child_elements_of parent) i e at_parent in (
+    let r = replaced (step_tests c s) (child_elements_of parent) i e at_parent in (
       λ h. r.0 (subst (λ (xs : List Tree). SelectsChild c s xs i) kids_are (there.0 (subst (λ (t : Tree). SelectsPath (first ∷ (steps ++ s ∷ [])) t (q ++ i ∷ [])) same h))),
       λ h. subst (λ (t : Tree). SelectsPath (first ∷ (steps ++ s ∷ [])) t (q ++ i ∷ [])) (sym same) (there.1 (subst (λ (xs : List Tree). SelectsChild c s xs i) (sym kids_are) (r.1 h))),
     )

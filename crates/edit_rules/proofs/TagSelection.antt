@@ -4,7 +4,7 @@ use Rattle.std.proofs.Common.{◌≡◌, ◌≢◌, ◌↔◌, ◌⊎◌, inl, i
 use Rattle.std.specs.List.{list_any}
 use Rattle.std.proofs.lemmas.Bool.{cases_order}
 use Rattle.std.proofs.lemmas.Option.{same_Some}
-use Rattle.node_select.specs.StepSelection.{Matches, Selects}
+use Rattle.node_select.specs.StepSelection.{StepTests, Matches, Selects}
 use Rattle.node_select.proofs.EditedSelection.{replaced}
 use Rattle.node_select.proofs.SelectionAgreement.{match_alike}
 use Rattle.xml_tree.specs.Tree.{Tree, child_elements_of, at}
@@ -17,7 +17,7 @@ use Rattle.xml_tree.proofs.TreeScopeLemmas.{scope_at-below}
 use Rattle.node_select.specs.declared.selector.Step.{Step}
 use Rattle.node_select.specs.declared.selector.End.TheVariants as ends
 use Rattle.node_select.specs.declared.selector.Selector.{Selector}
-use Rattle.node_select.specs.Selection.{is_attr_named, is_named, is_tested, has_end, FindsNode, SelectsChild, SelectsPath}
+use Rattle.node_select.specs.Selection.{is_attr_named, is_named, is_tested, step_tests, has_end, FindsNode, SelectsChild, SelectsPath}
 use Rattle.node_select.proofs.Along.{last_step_to, one_path}
 use Rattle.edit_rules.specs.AttributePuts.{FindsValue}
 use Rattle.edit_rules.specs.StartTags.{with_attrs}
@@ -45,13 +45,17 @@ map_set p [] j old new there same = cc
 map_set p (x ∷ xs) zero old new there same = ap (λ b. b ∷ map p xs) (same ∙ ap p (sym (same_Some x old there)))
 map_set p (x ∷ xs) (suc j) old new there same = ap (λ bs. p x ∷ bs) (map_set p xs j old new there same)
 
-pub only_here : {A : Type 0} (named tested : A → Bool) (position : Option ℕ) (child_elements : List A) (j : ℕ) (old new : A) (k : ℕ) → slice_get child_elements j ≡ Some old → named new ≡ named old → Selects named tested position child_elements j → Matches named tested position (set child_elements j new) k → k ≡ j
-only_here {A = A} named tested position child_elements j old new k there same s m = by (cases_order k j)
+-- the tests of a step without that of attributes
+abbrev any_attrs : {A : Type 0} → StepTests A → StepTests A
+any_attrs step = record { named = step.named; position = step.position; tested = λ _. true }
+
+pub only_here : {A : Type 0} (step : StepTests A) (child_elements : List A) (j : ℕ) (old new : A) (k : ℕ) → slice_get child_elements j ≡ Some old → step.named new ≡ step.named old → Selects step child_elements j → Matches step (set child_elements j new) k → k ≡ j
+only_here {A = A} step child_elements j old new k there same s m = by (cases_order k j)
   where
     other : k ≢ j → k ≡ j
     other ne =
-        let plain : Matches named (λ (x : A). true) position (set child_elements j new) k = record { child_element = m.child_element; there = m.there; is_named = m.is_named; at_position = m.at_position; is_tested = refl } in
-        let was = (match_alike named (λ (x : A). true) named (λ (x : A). true) position (set child_elements j new) child_elements k (record { same_named = map_set named child_elements j old new there same; same_tested = map_set (λ (x : A). true) child_elements j old new there refl })).0 plain in
+        let plain : Matches (any_attrs step) (set child_elements j new) k = record { child_element = m.child_element; there = m.there; is_named = m.is_named; at_position = m.at_position; is_tested = refl } in
+        let was = (match_alike (any_attrs step) (any_attrs step) (set child_elements j new) child_elements k (record { same_position = refl; same_named = map_set step.named child_elements j old new there same; same_tested = map_set (λ (x : A). true) child_elements j old new there refl })).0 plain in
         s.alone k (record { child_element = m.child_element; there = sym (get_set_other child_elements j new k ne) ∙ m.there; is_named = m.is_named; at_position = was.at_position; is_tested = m.is_tested })
 
     by : (k ≡ j) ⊎ ((k < j) ⊎ (j < k)) → k ≡ j
@@ -202,7 +206,7 @@ module _ (first : Step) (steps : List Step) (s : Step) (t parent child_element :
       let y = subst (λ (z : List ℕ). SelectsPath all (change_at q exchange t) (z ++ j ∷ [])) same x in
       let chosen = (last_step_after first steps s t parent q exchange j (λ y. refl) (last_step_to first steps s t q i sel).0 there).0 y in
       let m = subst (λ (xs : List Tree). SelectsChild c s xs j) kids_are chosen in
-      let here : j ≡ i = only_here (is_named c s) (is_tested c s) s.position (child_elements_of parent) i child_element new j is_kid refl child m.this in
+      let here : j ≡ i = only_here (step_tests c s) (child_elements_of parent) i child_element new j is_kid refl child m.this in
       e.1.1 ∙ ap (λ (z : List ℕ). z ++ j ∷ []) same ∙ ap (λ (k : ℕ). q ++ k ∷ []) here
 
 -- ---- the root
@@ -216,7 +220,7 @@ module _ (s : Step) (t : Tree) (ats : List Attr) (sel : SelectsPath (s ∷ []) t
 
   pub selected_root : SelectsPath (s ∷ []) root [] ↔ IsTrue (is_tested [] s root)
   selected_root =
-      let r = replaced (is_named [] s) (is_tested [] s) s.position (t ∷ []) 0 root sel.0 in
+      let r = replaced (step_tests [] s) (t ∷ []) 0 root sel.0 in
       (λ h. (r.0 h.0).1, λ h. (r.1 (named_root, h), (root, refl, tt)))
 
   pub only_root : (p' : List ℕ) → SelectsPath (s ∷ []) root p' → p' ≡ []

@@ -10,7 +10,7 @@ ghost use Rattle.xml_tree.specs.Edits.{change_at, put_in, put_over, take_in};
 ghost use Rattle.xml_tree.specs.TreeScopes.{scope_at};
 ghost use Rattle.xml_names.specs.declared.names.Attr.{Attr};
 ghost use Rattle.xml_tree.specs.declared.tree.Node.TheVariants.{Elem};
-ghost use Rattle.node_select.specs.Selection.{SelectsPath, is_named, is_tested};
+ghost use Rattle.node_select.specs.Selection.{SelectsPath, is_named, is_tested, step_tests};
 ghost use Rattle.node_select.specs.declared.selector.Step.{Step};
 ghost use Rattle.usage_docs.specs.declared.schema_table.ElementKind.{ElementKind};
 ghost use Rattle.usage_docs.specs.declared.key_repeats.Clash.{Clash};
@@ -47,8 +47,7 @@ pub fn lawful_by_the_last_step()
         → SelectsPath (first ∷ steps) t q → at q t ≡ Some parent
         → gap ≤ length (child_elements_of parent)
         → IsLawfulGap (first ∷ (steps ++ step ∷ [])) t new q gap
-        ↔ IsLawfulInsertion (is_named (scope_at q t) step)
-        (is_tested (scope_at q t) step) step.position (child_elements_of parent) new gap }
+        ↔ IsLawfulInsertion (step_tests (scope_at q t) step) (child_elements_of parent) new gap }
     ensures replaced_child { (first : Step) (steps : List Step) (step : Step) (t new : Tree)
         (q : List ℕ) (i : ℕ)
         → SelectsPath (first ∷ (steps ++ step ∷ [])) t (q ++ i ∷ [])

@@ -1,5 +1,5 @@
 -- Former paths as the code computes them, and bounds of their numbers.
-use Rattle.std.proofs.Common.{◌≡◌, ◌↔◌, ◌-◌, ◌≤◌, ◌+◌, ℕ, suc, Bool, true, false, cond, not, is_some, List, [], ◌∷◌, ◌++◌, length, All, Option, None, Some, option_map, option_and_then, refl, sym, ap, ◌∙◌, subst, arith}
+use Rattle.std.proofs.Common.{◌≡◌, ◌↔◌, ◌-◌, ◌≤◌, ◌+◌, ℕ, suc, Bool, true, false, cond, not, is_some, List, [], ◌∷◌, ◌++◌, length, length-append, All, Option, None, Some, option_map, option_and_then, refl, sym, ap, ◌∙◌, subst, arith}
 use Rattle.std.specs.Prelude.{◌&&◌, ◌==◌, nat_le}
 use Rattle.std.specs.List.{AllByRecursion}
 use Rattle.std.proofs.lemmas.List.Elements.{All-from_recursion, recursion_from_All}
@@ -11,7 +11,6 @@ use Rattle.edit_ops.specs.declared.change.Change.{Change}
 use Rattle.edit_ops.specs.declared.change.Change.TheVariants.{CreateDocument, Insert, Replace, Remove, SetAttr, DropAttr, RemoveDocument}
 use Rattle.edit_ops.proofs.WayLemmas.{path_below-whole}
 use Rattle.edit_ops.specs.Notes.{Note}
-use Rattle.edit_ops.specs.RecordParts.{all_notes}
 use Rattle.element_watch.specs.TouchedElements.{MovesUntouchedThrough}
 use Rattle.element_watch.proofs.EarlierPlaces.{leads_is}
 use Rattle.element_watch.specs.inner.PathHistory.{path_before_notes, path_before_change, is_below_root, map_path_below, undo_insertion}
@@ -135,7 +134,7 @@ pub middle_small : (older newer : List Note) (q p : List ℕ) (o : Option (List 
 middle_small older newer q p o was is few small =
     All-from_recursion (λ n. n ≤ 4294967359 - length older) p (more (4294967295 + length newer) (4294967359 - length older) p (omega arith) (back_within newer 4294967295 q p (sym is ∙ was) (recursion_from_All (λ n. n ≤ 4294967295) q small)))
 
--- ---- two slices of a list of change records
+-- ---- two pieces of a list of change records
 
 one_more_note : (o : Option (List ℕ)) (f : List ℕ → Option (List ℕ)) (g : List ℕ → Option (List ℕ)) → option_and_then g (option_and_then f o) ≡ option_and_then (λ m. option_and_then g (f m)) o
 one_more_note None f g = refl
@@ -149,8 +148,11 @@ back_append [] ys q = by (path_before_notes q ys)
     by (Some m) = refl
 back_append (n ∷ xs) ys q = ap (option_and_then (λ m. path_before_change m n.change)) (back_append xs ys q) ∙ one_more_note (path_before_notes q ys) (λ m. path_before_notes m xs) (λ m. path_before_change m n.change)
 
-pub trace_is : (older newer : List Note) (q p : List ℕ) (o : Option (List ℕ)) → o ≡ option_and_then (λ m. path_before_notes m older) (path_before_notes q newer) → (o ≡ Some p) ↔ MovesUntouchedThrough p (all_notes older newer) q
-trace_is older newer q p o is =
-    let whole : o ≡ path_before_notes q (all_notes older newer) = is ∙ sym (back_append older newer q) in
-    let r = leads_is (all_notes older newer) p q in
+pub few_of_all : (older newer : List Note) → length (older ++ newer) ≤ 64 → length older + length newer ≤ 64
+few_of_all older newer few = omega (arith, length-append older newer)
+
+pub trace_is : (older newer ns : List Note) (q p : List ℕ) (o : Option (List ℕ)) → older ++ newer ≡ ns → o ≡ option_and_then (λ m. path_before_notes m older) (path_before_notes q newer) → (o ≡ Some p) ↔ MovesUntouchedThrough p ns q
+trace_is older newer ns q p o joins is =
+    let whole : o ≡ path_before_notes q ns = is ∙ sym (back_append older newer q) ∙ ap (path_before_notes q) joins in
+    let r = leads_is ns p q in
     (λ h. r.0 (sym whole ∙ h), λ h. whole ∙ r.1 h)

@@ -1,5 +1,5 @@
 -- What the code finds about an element, by the results of its parts.
-use Rattle.std.proofs.Common.{◌≡◌, ◌↔◌, ◌≤◌, ◌+◌, ℕ, Bool, true, false, List, length, is_some, IsTrue, Option, None, Some, option_map, Result, Ok, Err, IfOk, encode_utf8_all, length-append, refl, sym, ap, ◌∙◌, arith}
+use Rattle.std.proofs.Common.{◌≡◌, ◌↔◌, ℕ, Bool, true, false, List, is_some, IsTrue, Option, None, Some, option_map, Result, Ok, Err, IfOk, encode_utf8_all, refl, sym, ap, ◌∙◌}
 use Rattle.std.specs.Prelude.{◌&&◌}
 use Rattle.std.proofs.lemmas.Option.{same_Some}
 use Rattle.xml_tree.specs.Tree.{Tree}
@@ -11,7 +11,6 @@ use Rattle.doc_names.specs.declared.usages.Usage.{Usage}
 use Rattle.node_select.specs.Selection.{SelectsPath}
 use Rattle.node_select.specs.declared.selector.Selector.{Selector}
 use Rattle.edit_ops.specs.Notes.{Note}
-use Rattle.edit_ops.specs.RecordParts.{all_notes}
 use Rattle.edit_rules.specs.KeyAddresses.{IsKeyAddressOf}
 use Rattle.element_watch.specs.ElementNotices.{element_notice}
 use Rattle.element_watch.specs.declared.element_states.ElementState.{ElementState}
@@ -76,8 +75,3 @@ pub notice_text : {E : Type 0} (root : List ℕ) (c : StoreContents) (id : DocId
 notice_text root c id selector raw ns u t tag state r got known is writes =
     let h = got_is (find_document stored_id c.documents id) t tag got in
     all_texts root c id selector raw ns u h.0 state r h.1.0 known (is ∙ ap (λ (x : Tree). state_of_selected (Some u) x selector ns) (sym h.1.1)) writes
-
--- ---- records in two slices
-
-pub few_of_all : (older newer : List Note) → length (all_notes older newer) ≤ 64 → length older + length newer ≤ 64
-few_of_all older newer few = omega (arith, length-append older newer)

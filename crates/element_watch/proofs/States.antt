@@ -13,7 +13,7 @@ use Rattle.node_select.proofs.Along.{one_path}
 use Rattle.node_select.proofs.ReachLemmas.{path_is}
 use Rattle.edit_ops.specs.Notes.{Note}
 use Rattle.element_watch.specs.ElementNotices.{element_notice}
-use Rattle.patch_rules.specs.inner.AppendedElements.{has_no_notes}
+use Rattle.edit_ops.specs.RecordParts.{has_no_notes}
 use Rattle.element_watch.specs.declared.element_states.ElementState.{ElementState}
 use Rattle.element_watch.specs.declared.element_states.ElementState.TheVariants.{Unchanged, Exists, Missing}
 use Rattle.store_core.specs.DocumentChanges.{find_document, stored_id}

@@ -3,11 +3,10 @@ ghost use Rattle.std.specs.Prelude.{◌≡◌, ◌≤◌, ◌+◌, All, Some, If
 ghost use Rattle.xml_names.specs.declared.limits.TheConstants.{MAX_LEVELS};
 ghost use Rattle.xml_tree.specs.Tree.{height};
 ghost use Rattle.node_select.specs.Selection.{SelectsPath};
-ghost use Rattle.edit_ops.specs.RecordParts.{all_notes};
+ghost use Rattle.edit_ops.specs.RecordParts.{has_no_notes};
 ghost use Rattle.store_core.specs.declared.limits.TheConstants.{MAX_NOTES};
 ghost use Rattle.store_core.specs.ValidStates.{IsSoundDocumentFor};
 ghost use Rattle.store_core.specs.Since.{ReportedChanges, since};
-ghost use Rattle.patch_rules.specs.inner.AppendedElements.{has_no_notes};
 ghost use Rattle.element_watch.specs.declared.element_states.ElementState.TheVariants.{Unchanged};
 ghost use Rattle.element_watch.specs.declared.element_states.ElementState.TheVariants.{Missing};
 ghost use Rattle.element_watch.specs.WatchedElements.{IsNoticeAnswer, IsNoticeText};
@@ -38,12 +37,6 @@ pub struct Watch<'a> {
     pub raw: &'a Text,
 }
 
-fn has_no_records(notes: Notes<'_>) -> bool
-    ensures exact { result ≡ has_no_notes (all_notes notes.entry.older.now notes.entry.newer.now) }
-{
-    notes.older.is_empty() && notes.newer.is_empty()
-}
-
 // Whether a selector that selects the element at a path is a key address, and no change record
 // touches the element.
 fn is_untouched(
@@ -51,14 +44,13 @@ fn is_untouched(
     root: &Element,
     selector: &Selector,
     path: &Path,
-    notes: Notes<'_>,
+    notes: &Notes<'_>,
 ) -> bool
     requires selects { SelectsPath selector.now.steps root.now path.now }
     requires numbers_bounded { All (λ n. n ≤ 4294967295) path.now }
-    requires within_max { length notes.older.now + length notes.newer.now ≤ MAX_NOTES }
+    requires within_max { length notes.now ≤ MAX_NOTES }
     ensures exact { result
-        ≡ is_untouched_at usage root.now selector.now
-        (all_notes notes.entry.older.now notes.entry.newer.now) path.now }
+        ≡ is_untouched_at usage root.now selector.now notes.now path.now }
 {
     key_address(usage, root, selector, path) && trace(path, notes).is_some()
 }
@@ -69,28 +61,26 @@ fn state_at(
     root: &Element,
     selector: &Selector,
     path: &Path,
-    notes: Notes<'_>,
+    notes: &Notes<'_>,
 ) -> ElementState
     requires selects { SelectsPath selector.now.steps root.now path.now }
     requires numbers_bounded { All (λ n. n ≤ 4294967295) path.now }
-    requires within_max { length notes.older.now + length notes.newer.now ≤ MAX_NOTES }
+    requires within_max { length notes.now ≤ MAX_NOTES }
     ensures exact { result
-        ≡ state_at (Some usage) root.now selector.now
-        (all_notes notes.entry.older.now notes.entry.newer.now) (Some path.now) }
+        ≡ state_at (Some usage) root.now selector.now notes.now (Some path.now) }
 {
-    if has_no_records(notes) || is_untouched(usage, root, selector, path, notes) {
+    if notes.is_empty() || is_untouched(usage, root, selector, path, notes) {
         return ElementState::Unchanged;
     }
     ElementState::Exists
 }
 
 // The state where the selector selects nothing.
-fn state_if_unselected(notes: Notes<'_>) -> ElementState
+fn state_if_unselected(notes: &Notes<'_>) -> ElementState
     ensures exact { result
-        ≡ (if has_no_notes (all_notes notes.entry.older.now notes.entry.newer.now) then Unchanged
-        else Missing) }
+        ≡ (if has_no_notes notes.now then Unchanged else Missing) }
 {
-    if has_no_records(notes) {
+    if notes.is_empty() {
         return ElementState::Unchanged;
     }
     ElementState::Missing
@@ -102,14 +92,13 @@ fn state_of(
     usage: Usage,
     root: &Element,
     selector: &Selector,
-    notes: Notes<'_>,
+    notes: &Notes<'_>,
 ) -> ElementState
     requires is_sound { IsSoundDocumentFor (Some usage) root.now }
     requires height_bounded { height root.now ≤ MAX_LEVELS }
-    requires within_max { length notes.older.now + length notes.newer.now ≤ MAX_NOTES }
+    requires within_max { length notes.now ≤ MAX_NOTES }
     ensures exact { result
-        ≡ state_of_selected (Some usage) root.now selector.now
-        (all_notes notes.entry.older.now notes.entry.newer.now) }
+        ≡ state_of_selected (Some usage) root.now selector.now notes.now }
 {
     match select(alloc, root, selector) {
         None => state_if_unselected(notes),
@@ -124,19 +113,18 @@ fn notice_since(
     store: &Store,
     root: &Root,
     watch: Watch<'_>,
-    notes: Notes<'_>,
+    notes: &Notes<'_>,
 ) -> Result<Bytes, AllocError>
     requires is_reported { since store.now.content watch.doc.now watch.tag
-        ≡ ReportedChanges (all_notes notes.older.now notes.newer.now) }
-    requires within_max { length notes.older.now + length notes.newer.now ≤ MAX_NOTES }
+        ≡ ReportedChanges notes.now }
+    requires within_max { length notes.now ≤ MAX_NOTES }
     ensures diff_text { IfOk result
         (IsNoticeText root.now
         (record {
           doc = watch.entry.doc.now;
           selector = watch.entry.selector.now;
           raw = watch.entry.raw.now;
-        })
-        store.now.content (all_notes notes.entry.older.now notes.entry.newer.now)) }
+        }) store.now.content notes.now) }
 {
     let Some((tree, _tag)) = store.get(watch.doc) else {
         unreachable!();
@@ -175,6 +163,6 @@ pub fn element_notice(
     match store.since(watch.doc, watch.tag) {
         Since::Gone => Err(ElementFault::Gone),
         Since::Unknown => Err(ElementFault::Unknown),
-        Since::Changes(notes) => Ok(notice_since(alloc, store, root, watch, notes)?),
+        Since::Changes(notes) => Ok(notice_since(alloc, store, root, watch, &notes)?),
     }
 }

@@ -4,7 +4,6 @@ ghost use Rattle.std.specs.Prelude.{is_some, length, not, option_and_then, if◌
 ghost use Rattle.store_core.specs.declared.limits.TheConstants.{MAX_NOTES};
 ghost use Rattle.edit_ops.specs.MovedPaths.{path_below, shift_after_insert, change_path_below};
 ghost use Rattle.edit_ops.specs.declared.change.Change.TheVariants.{Remove};
-ghost use Rattle.edit_ops.specs.RecordParts.{all_notes};
 ghost use Rattle.element_watch.specs.TouchedElements.{MovesUntouchedThrough};
 ghost use Rattle.element_watch.specs.inner.PathHistory.{path_before_notes, path_before_change};
 ghost use Rattle.element_watch.specs.inner.PathHistory.{is_touched, map_path_below};
@@ -179,7 +178,7 @@ fn path_before_notes(path: &Path, notes: &[EditNote]) -> Option<Path>
     path_before_note(&after, note)
 }
 
-// Where the element at a path was before recorded changes in two slices.
+// Where the element at a path was before recorded changes in two pieces.
 #[tactic(auto, using(crate::proofs::Bounds::middle_small))]
 fn path_before_all_notes(path: &Path, older: &[EditNote], newer: &[EditNote]) -> Option<Path>
     requires numbers_bounded { All (λ n. n ≤ 4294967295) path.now }
@@ -196,13 +195,12 @@ fn path_before_all_notes(path: &Path, older: &[EditNote], newer: &[EditNote]) ->
 /// move to it, where none touches it on the way. None exactly where there is no such path. No
 /// number of the path is above 4,294,967,295, and there are at most `MAX_NOTES` records. Does not
 /// allocate.
-#[tactic(auto, using(crate::proofs::Bounds::trace_is))]
-pub fn trace(path: &Path, notes: Notes<'_>) -> Option<Path>
+pub fn trace(path: &Path, notes: &Notes<'_>) -> Option<Path>
     requires numbers_bounded { All (λ n. n ≤ 4294967295) path.now }
-    requires within_max { length notes.older.now + length notes.newer.now ≤ MAX_NOTES }
+    requires within_max { length notes.now ≤ MAX_NOTES }
     ensures place_before { (p : List ℕ)
-        → (result ≡ Some p) ↔ MovesUntouchedThrough p
-        (all_notes notes.entry.older.now notes.entry.newer.now) path.now }
+        → (result ≡ Some p) ↔ MovesUntouchedThrough p notes.now path.now }
 {
-    path_before_all_notes(path, notes.older, notes.newer)
+    let (older, newer) = notes.pieces();
+    path_before_all_notes(path, older, newer)
 }

@@ -28,8 +28,8 @@ pub record LogParts : Type 0 where
   pub is_torn : Bool
   pub is_stopped : Bool
 
-abbrev pub parts_of : {C : Type 0} → FolderLog C → LogParts
-parts_of log = record {
+abbrev pub log_parts : {C : Type 0} → FolderLog C → LogParts
+log_parts log = record {
   folder = disk_history log.disk;
   history = log.history.log;
   mark = log.mark;
@@ -105,4 +105,4 @@ pub record HasSoundParts (p : LogParts) : Type 0 where
       (p.history.now ∷ p.history.past)
 
 abbrev pub IsSoundLog : {C : Type 0} → FolderLog C → Type 0
-IsSoundLog log = HasSoundParts (parts_of log)
+IsSoundLog log = HasSoundParts (log_parts log)

@@ -1,10 +1,10 @@
 // Reads the file of a log from the start.
-ghost use Rattle.std.specs.Prelude.{◌≡◌, ◌≤◌, ◌∷◌, ℕ, List, drop, length, IfOk};
+ghost use Rattle.std.specs.Prelude.{◌≡◌, ◌≤◌, ℕ, List, drop, length, IfOk};
 ghost use Rattle.change_log.specs.LogItems.{IsReadItem};
-ghost use Rattle.folder_log.specs.FileFormat.{item_of_content};
+ghost use Rattle.folder_log.specs.FileFormat.{item_of_content, item_of_kind};
 ghost use Rattle.folder_log.specs.Restarts.{mark_of};
 
-use crate::entry_kinds::{CHANGE, FIRST, PART};
+use crate::entry_kinds::EntryKind;
 use change_log::{LogCursor, LogItem};
 use log_entries::entry_at;
 use std::alloc::AllocError;
@@ -49,27 +49,22 @@ fn read_entry(number: u64, content: &[u8], bytes: &mut Vec<u8>) -> Result<LogIte
     bytes.clear();
     match content {
         [] => Ok(LogItem::Unknown),
-        [kind, rest @ ..] => {
+        [byte, rest @ ..] => {
             bytes.extend_from_slice(rest)?;
-            Ok(item_of_kind(*kind, number))
+            Ok(item_of_kind(EntryKind::from_byte(*byte), number))
         }
     }
 }
 
-fn item_of_kind(kind: u8, number: u64) -> LogItem
-    ensures exact { (bytes : List ℕ)
-        → IsReadItem result bytes (item_of_content number (kind ∷ bytes)) }
+fn item_of_kind(kind: Option<EntryKind>, number: u64) -> LogItem
+    ensures exact { (bytes : List ℕ) → IsReadItem result bytes (item_of_kind kind number bytes) }
 {
-    if kind == PART {
-        return LogItem::Part;
+    match kind {
+        Some(EntryKind::Part) => LogItem::Part,
+        Some(EntryKind::SnapshotEnd) => LogItem::First(number),
+        Some(EntryKind::Change) => LogItem::Change(number),
+        None => LogItem::Unknown,
     }
-    if kind == FIRST {
-        return LogItem::First(number);
-    }
-    if kind == CHANGE {
-        return LogItem::Change(number);
-    }
-    LogItem::Unknown
 }
 
 impl LogCursor for FileCursor {

@@ -9,11 +9,11 @@ ghost use Rattle.change_log.specs.LogHistories.{with_open_change, IsFoundBeforeO
 ghost use Rattle.change_log.specs.LogHistories.{HoldsAtEachMoment};
 ghost use Rattle.change_log.specs.LogStates.{FailsToAppend};
 ghost use Rattle.folder_log.specs.FileFormat.{change_entry};
-ghost use Rattle.folder_log.specs.FolderLogs.{IsSoundLog, parts_of, log_state};
+ghost use Rattle.folder_log.specs.FolderLogs.{IsSoundLog, log_parts, log_state};
 ghost use Rattle.folder_log.specs.inner.DraftSteps.{HasEndedDraft, HasReadyDraft};
 ghost use Rattle.folder_log.specs.inner.DraftSteps.{KeepsMarksAndNumber, KeepsMarksAndDraft};
 
-use crate::entry_kinds::{CHANGE, FIRST, PART, entry_of_kind};
+use crate::entry_kinds::{EntryKind, entry_of_kind};
 use change_log::{AppendFault, ChangeLog, LogHistory, SnapshotFault};
 use log_disk::{Disk, FolderCalls, FolderFault};
 use std::alloc::Global;
@@ -57,12 +57,12 @@ impl<C: FolderCalls + Drop> FolderLog<C> {
             (self.new.history.log.now ≡ without_open_change self.old.history.log.now) }
         ensures err_same { OnErr result (self.new.history.log.now ≡ self.old.history.log.now) }
         ensures counts { MatchResult result
-            (λ _. (log_state (parts_of self.new)).faults ≡ (log_state (parts_of self.old)).faults)
-            (λ _. (log_state (parts_of self.old)).faults
-            < (log_state (parts_of self.new)).faults) }
+            (λ _. (log_state (log_parts self.new)).faults ≡ (log_state (log_parts self.old)).faults)
+            (λ _. (log_state (log_parts self.old)).faults
+            < (log_state (log_parts self.new)).faults) }
         ensures any_moment { HoldsAtEachMoment (MayBeFound self.old.history.log.now)
             self.old.history.log self.new.history.log }
-        ensures same_rest { KeepsMarksAndDraft (parts_of self.old) (parts_of self.new) }
+        ensures same_rest { KeepsMarksAndDraft (log_parts self.old) (log_parts self.new) }
         ensures same_next { self.new.next ≡ self.old.next }
         ensures still_sound { IsSoundLog self.new }
     {
@@ -100,14 +100,14 @@ impl<C: FolderCalls + Drop> FolderLog<C> {
         ensures not_appended { OnErr result (FailsToAppend change.now
             self.old.history.log.now self.new.history.log.now) }
         ensures counts { MatchResult result
-            (λ _. (log_state (parts_of self.new)).faults ≡ (log_state (parts_of self.old)).faults)
-            (λ _. (log_state (parts_of self.old)).faults
-            < (log_state (parts_of self.new)).faults) }
+            (λ _. (log_state (log_parts self.new)).faults ≡ (log_state (log_parts self.old)).faults)
+            (λ _. (log_state (log_parts self.old)).faults
+            < (log_state (log_parts self.new)).faults) }
         ensures any_moment { HoldsAtEachMoment
             (IsFoundBeforeOr self.old.history.log
             (with_change change.now self.old.history.log.now.kept))
             self.old.history.log self.new.history.log }
-        ensures same_rest { KeepsMarksAndDraft (parts_of self.old) (parts_of self.new) }
+        ensures same_rest { KeepsMarksAndDraft (log_parts self.old) (log_parts self.new) }
         ensures still_sound { IsSoundLog self.new }
     {
         if let Err(FolderFault) = self.disk.write(entry) {
@@ -134,16 +134,16 @@ impl<C: FolderCalls + Drop> FolderLog<C> {
         requires draft_begun { self.old.has_draft ≡ true }
         requires not_stopped { self.old.is_stopped ≡ false }
         ensures ended { OnOk result
-            (HasEndedDraft (parts_of self.old) (parts_of self.new) entry.now) }
+            (HasEndedDraft (log_parts self.old) (log_parts self.new) entry.now) }
         ensures counts { MatchResult result
-            (λ _. (log_state (parts_of self.new)).faults ≡ (log_state (parts_of self.old)).faults)
-            (λ _. (log_state (parts_of self.old)).faults
-            < (log_state (parts_of self.new)).faults) }
+            (λ _. (log_state (log_parts self.new)).faults ≡ (log_state (log_parts self.old)).faults)
+            (λ _. (log_state (log_parts self.old)).faults
+            < (log_state (log_parts self.new)).faults) }
         ensures same_log { self.new.history.log.now ≡ self.old.history.log.now }
         ensures same_parts { self.new.history.log.draft ≡ self.old.history.log.draft }
         ensures any_moment { HoldsAtEachMoment (MayBeFound self.old.history.log.now)
             self.old.history.log self.new.history.log }
-        ensures same_fields { KeepsMarksAndNumber (parts_of self.old) (parts_of self.new) }
+        ensures same_fields { KeepsMarksAndNumber (log_parts self.old) (log_parts self.new) }
         ensures no_draft { self.new.has_draft ≡ false }
         ensures still_sound { IsSoundLog self.new }
     {
@@ -167,14 +167,14 @@ impl<C: FolderCalls + Drop> FolderLog<C> {
         requires is_sound { IsSoundLog self.old }
         requires not_stopped { self.old.is_stopped ≡ false }
         requires no_draft { self.old.has_draft ≡ false }
-        requires ready { HasReadyDraft (parts_of self.old) first }
+        requires ready { HasReadyDraft (log_parts self.old) first }
         ensures replaced { OnOk result (self.new.history.log.now
             ≡ settled_moment (snapshot_of self.old.history.log.draft first)) }
         ensures begun { OnOk result (self.new.is_begun ≡ true) }
         ensures stopped { OnErr result (self.new.is_stopped ≡ true) }
         ensures same_phase { OnErr result (self.new.is_begun ≡ self.old.is_begun) }
-        ensures cause { OnErr result ((log_state (parts_of self.old)).faults
-            < (log_state (parts_of self.new)).faults) }
+        ensures cause { OnErr result ((log_state (log_parts self.old)).faults
+            < (log_state (log_parts self.new)).faults) }
         ensures any_moment { HoldsAtEachMoment
             (IsFoundBeforeOr self.old.history.log (snapshot_of self.old.history.log.draft first))
             self.old.history.log self.new.history.log }
@@ -201,9 +201,9 @@ impl<C: FolderCalls + Drop> FolderLog<C> {
 }
 
 impl<C: FolderCalls + Drop> ChangeLog for FolderLog<C> {
-    ghost use Rattle.folder_log.specs.FolderLogs.{IsSoundLog, parts_of, log_state};
+    ghost use Rattle.folder_log.specs.FolderLogs.{IsSoundLog, log_parts, log_state};
 
-    ghost state = { λ log. log_state (parts_of log) };
+    ghost state = { λ log. log_state (log_parts log) };
 
     ghost sound = { λ log. IsSoundLog log };
 
@@ -219,7 +219,7 @@ impl<C: FolderCalls + Drop> ChangeLog for FolderLog<C> {
         if self.is_stopped {
             return Err(AppendFault::Failed);
         }
-        let entry = entry_of_kind(alloc, &self.mark, self.next, CHANGE, change)?;
+        let entry = entry_of_kind(alloc, &self.mark, self.next, EntryKind::Change, change)?;
         let number = self.next;
         if let Err(FolderFault) = self.cut_torn_write() {
             return Err(AppendFault::Failed);
@@ -253,7 +253,7 @@ impl<C: FolderCalls + Drop> ChangeLog for FolderLog<C> {
         if self.is_stopped {
             return Err(SnapshotFault::NotWritten);
         }
-        let entry = entry_of_kind(alloc, &self.draft_mark, 0, PART, part)?;
+        let entry = entry_of_kind(alloc, &self.draft_mark, 0, EntryKind::Part, part)?;
         if let Err(FolderFault) = self.disk.write_draft(&entry) {
             self.history.record_no_change();
             self.has_draft = false;
@@ -267,7 +267,7 @@ impl<C: FolderCalls + Drop> ChangeLog for FolderLog<C> {
         if self.is_stopped {
             return Err(SnapshotFault::NotWritten);
         }
-        let entry = entry_of_kind(alloc, &self.draft_mark, first, FIRST, &[])?;
+        let entry = entry_of_kind(alloc, &self.draft_mark, first, EntryKind::SnapshotEnd, &[])?;
         if let Err(FolderFault) = self.end_draft(&entry) {
             return Err(SnapshotFault::NotWritten);
         }

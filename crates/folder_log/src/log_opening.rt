@@ -1,19 +1,19 @@
 // Opens a log: its file is read as entries, and these as what a log holds.
-ghost use Rattle.std.specs.Prelude.{◌≡◌, ◌==◌, ◌-◌, ℕ, length, map, None, Some};
-ghost use Rattle.std.specs.Prelude.{if◌then◌else◌, IfOk, OnErr, IsErrOf};
+ghost use Rattle.std.specs.Prelude.{◌≡◌, ◌-◌, ◌∷◌, ℕ, length, map, None, Some};
+ghost use Rattle.std.specs.Prelude.{IfOk, OnErr, IsErrOf};
 ghost use Rattle.log_disk.specs.DiskHistories.{disk_history};
 ghost use Rattle.log_entries.specs.Entries.{leading_entries};
 ghost use Rattle.change_log.specs.LogContents.{Contents, next_number};
-ghost use Rattle.change_log.specs.LogItems.{IsReadAs, part, first, change, other, no_scan};
+ghost use Rattle.change_log.specs.LogItems.{IsReadAs, part, first, change, no_scan};
 ghost use Rattle.change_log.specs.LogItems.{scan_items};
-ghost use Rattle.folder_log.specs.FileFormat.{item_of, item_of_content};
-ghost use Rattle.folder_log.specs.FolderLogs.{parts_of};
+ghost use Rattle.folder_log.specs.FileFormat.{item_of, item_of_content, item_of_kind};
+ghost use Rattle.folder_log.specs.FolderLogs.{log_parts};
 ghost use Rattle.folder_log.specs.LogOpenings.{IsOpenedLog, remaining_items};
 ghost use Rattle.folder_log.specs.Restarts.{IsFoundInFile, mark_of};
 ghost use Rattle.folder_log.specs.inner.Scanners.{AgreesWithHistory, ScansItem, new_parts, scan_of};
 ghost use Rattle.folder_log.specs.declared.log_opening.OpenFault.{OpenFault};
 
-use crate::entry_kinds::{CHANGE, FIRST, PART};
+use crate::entry_kinds::EntryKind;
 use crate::file_cursor::file_mark;
 use crate::{FileCursor, FolderLog};
 use change_log::{LogHistory, MAX_CONTENT_BYTES};
@@ -94,23 +94,30 @@ impl Scanner {
     }
 
     // An entry of a kind.
-    fn scan_kind(&mut self, kind: u8, number: u64, bytes: &[u8]) -> bool
+    fn scan_kind(&mut self, kind: EntryKind, number: u64, bytes: &[u8]) -> bool
         requires { AgreesWithHistory self.old }
-        ensures scans { ScansItem self.old (if kind == 1 then part bytes.now
-            else if kind == 2 then first number
-            else if kind == 3 then change number bytes.now else other) result self.new }
+        ensures scans { ScansItem self.old (item_of_kind (Some kind) number bytes.now)
+            result self.new }
         ensures agrees { AgreesWithHistory self.new }
     {
-        if kind == PART {
-            return self.scan_part(bytes);
+        match kind {
+            EntryKind::Part => self.scan_part(bytes),
+            EntryKind::SnapshotEnd => self.scan_first(number),
+            EntryKind::Change => self.scan_change(number, bytes),
         }
-        if kind == FIRST {
-            return self.scan_first(number);
+    }
+
+    // An entry whose content begins with this byte.
+    fn scan_after_byte(&mut self, byte: u8, number: u64, bytes: &[u8]) -> bool
+        requires { AgreesWithHistory self.old }
+        ensures scans { ScansItem self.old (item_of_content number (byte ∷ bytes.now))
+            result self.new }
+        ensures agrees { AgreesWithHistory self.new }
+    {
+        match EntryKind::from_byte(byte) {
+            None => false,
+            Some(kind) => self.scan_kind(kind, number, bytes),
         }
-        if kind == CHANGE {
-            return self.scan_change(number, bytes);
-        }
-        false
     }
 
     fn scan_entry(&mut self, number: u64, content: &[u8]) -> bool
@@ -120,7 +127,7 @@ impl Scanner {
     {
         match content {
             [] => false,
-            [kind, bytes @ ..] => self.scan_kind(*kind, number, bytes),
+            [byte, bytes @ ..] => self.scan_after_byte(*byte, number, bytes),
         }
     }
 }
@@ -153,7 +160,7 @@ fn scan_file<'a>(
 
 // The log that was read.
 fn log_of<C: FolderCalls + Drop>(disk: Disk<C>, scanner: Scanner) -> FolderLog<C>
-    ensures exact { parts_of result
+    ensures exact { log_parts result
         ≡ new_parts (disk_history disk) scanner.history.log scanner.next }
 {
     FolderLog {
@@ -209,7 +216,7 @@ pub fn open_log<C: FolderCalls + Drop>(
     bytes: Vec<u8>,
 ) -> Result<(FolderLog<C>, FileCursor), OpenFault>
     ensures opened { IfOk result (λ x.
-        IsOpenedLog bytes.items (parts_of x.0) (remaining_items x.1.bytes.items x.1.at)) }
+        IsOpenedLog bytes.items (log_parts x.0) (remaining_items x.1.bytes.items x.1.at)) }
     ensures nothing_found { OnErr result ((c : Contents) → ¬ (IsFoundInFile bytes.items c)) }
     ensures place { (place : ℕ) → IsErrOf result (OpenFault.Damaged place)
         → place ≡ length bytes.items - length

@@ -1,5 +1,6 @@
 -- What a turn leaves, by what it was: the clauses of `make_turn`.
 use Rattle.std.proofs.Common.{◌≡◌, ℕ, suc, Bool, if◌then◌else◌, ◌+◌, ◌*◌, ◌<◌, ◌≤◌, inr, List, [], ◌∷◌, ◌++◌, Option, None, Some, Ok, Err, length, true≢false, refl, sym, ap, subst, ◌∙◌, arith}
+use Rattle.std.proofs.lemmas.List.{length-set}
 use Rattle.std.specs.Prelude.{slice_set, option_map, is_none, is_some, IfSome, true, false, ◌&&◌}
 use Rattle.std.specs.List.{list_any, position}
 use Rattle.halls.specs.CallResults.{IsOpen, IsOver}
@@ -13,6 +14,7 @@ use Rattle.hall_serve.specs.declared.turns.Turn.TheVariants as turn
 use Rattle.hall_serve.specs.Exchanges.{Exchange}
 use Rattle.hall_serve.specs.Seats.{MatchesSeats, SeatState, requests_left, seat_at}
 use Rattle.hall_serve.specs.ServedHalls.{AreTriesInOrder, CountsTurn, HallServer, HasServed, ServesOn, WritesOrAnswers, begun_in, faults_in, memory_failures_in, places_offered}
+use Rattle.hall_serve.specs.inner.NewSeats.{new_seat}
 use Rattle.hall_serve.specs.inner.SeatTurns.{SeatsNextIn, ServesAt, ServesReady, ServesSeat, passes, set_connection}
 use Rattle.hall_serve.proofs.AcceptedConnections.{accepted_in_order, matches_accepted, serves_accepted}
 use Rattle.hall_serve.proofs.HallChanges.{matches_after, open_still, ready_still, same_still}
@@ -144,6 +146,10 @@ module _ {M E W : Type 0} (Step : M → Request → List ℕ → M → Option E 
     knock_done free k is within empty turn.NoMemory mid hall' waited seats' s = absurd s
     knock_done free k is within empty turn.Over mid hall' waited seats' s = absurd s
 
+-- a change at one place keeps the number of seats
+pub same_number_at : (k : ℕ) (seats seats' : List (Option SeatState)) (seat : Option SeatState) → seats' ≡ slice_set seats k seat → length seats' ≡ length seats
+same_number_at k seats seats' seat is = ap (λ (l : List (Option SeatState)). length l) is ∙ length-set seats k seat
+
 -- there is a place for the next connection exactly where more are taken and a seat is free
 pub place_offered : (takes_more : Bool) (free : Option ℕ) (seats : List (Option SeatState)) → free ≡ (if takes_more then position is_none seats else None) → is_some free ≡ (takes_more && list_any is_none seats)
 place_offered takes_more free seats first = ap (λ (o : Option ℕ). is_some o) first ∙ by_case takes_more
@@ -160,6 +166,22 @@ counts_offered t more takes_more seats old new is counts = subst (λ (b : Bool).
 -- a turn of an open connection begins none
 pub ready_begins_none : {M E W : Type 0} (Step : M → Request → List ℕ → M → Option E → Type 0) (Keeps : List E → W → W → Type 0) (t : Turn) (k : ℕ) (old new : HallServer M W) → ServesReady Step Keeps t k old new → t ≡ turn.Began → ⊥
 ready_begins_none Step Keeps t k old new s is = subst (λ (t : Turn). ServesReady Step Keeps t k old new) is s
+
+-- a turn keeps the number of seats: that of an open connection
+pub ready_same_number : {M E W : Type 0} (Step : M → Request → List ℕ → M → Option E → Type 0) (Keeps : List E → W → W → Type 0) (t : Turn) (k : ℕ) (old new : HallServer M W) → ServesReady Step Keeps t k old new → length new.seats ≡ length old.seats
+ready_same_number Step Keeps turn.Went k old new s = same_number_at k old.seats new.seats s.left s.only_there
+ready_same_number Step Keeps turn.NoMemory k old new s = same_number_at k old.seats new.seats s.left s.only_there
+ready_same_number Step Keeps turn.Began k old new s = absurd s
+ready_same_number Step Keeps turn.Over k old new s = absurd s
+ready_same_number Step Keeps turn.HallFailed k old new s = absurd s
+
+-- and one in which a connection could be accepted
+pub knock_same_number : (free : Option ℕ) (seats seats' : List (Option SeatState)) (mid hall' : HallState) (t : Turn) → SeatsNextIn free seats seats' mid hall' t → length seats' ≡ length seats
+knock_same_number free seats seats' mid hall' turn.Went (same, moved) = ap (λ (l : List (Option SeatState)). length l) same
+knock_same_number free seats seats' mid hall' turn.HallFailed (same, moved) = ap (λ (l : List (Option SeatState)). length l) same
+knock_same_number free seats seats' mid hall' turn.Began (place, at, (id, same_place, number, seated, moved)) = same_number_at place seats seats' (Some (new_seat id)) seated
+knock_same_number free seats seats' mid hall' turn.NoMemory s = absurd s
+knock_same_number free seats seats' mid hall' turn.Over s = absurd s
 
 -- a free place that was found
 pub record FreePlace (seats : List (Option SeatState)) (free : Option ℕ) : Type 0 where

@@ -66,13 +66,13 @@ count_more connections turns connections' t whole sum offered old mid new so_far
 module _ {M E W : Type 0} (Keeps : List E → W → W → Type 0) where
   -- and another turn, in which more are taken where fewer than wanted began before it
   pub turn_made : (begun count connections turns : ℕ) (old mid new : HallServer M W) (t : Turn) (more : Bool) → (more ≡ true → connections < count) → (connections < count → more ≡ true)
-      → MakesTurns Keeps (begun + count) turns old mid → length mid.hall.connections ≡ begun + connections → MatchesSeats new.hall new.seats → WritesOrAnswers Keeps mid new → AreTriesInOrder mid.seats mid.hall new.hall
+      → MakesTurns Keeps (begun + count) turns old mid → length mid.hall.connections ≡ begun + connections → length new.seats ≡ length mid.seats → MatchesSeats new.hall new.seats → WritesOrAnswers Keeps mid new → AreTriesInOrder mid.seats mid.hall new.hall
       → CountsTurn t (places_offered more mid.seats) mid.hall new.hall → MakesTurns Keeps (begun + count) (turns + 1) old new
-  turn_made begun count connections turns old mid new t more fewer_if below so_far sum matches notified in_order counts =
+  turn_made begun count connections turns old mid new t more fewer_if below so_far sum number matches notified in_order counts =
       let next : suc turns ≡ turns + 1 = omega arith in
       let fewer : (more ≡ true) ↔ (length mid.hall.connections < begun + count) = (λ is. (let l = fewer_if is in omega (arith, l, sum)), λ l. below (omega (arith, l, sum))) in
       subst (λ (n : ℕ). MakesTurns Keeps (begun + count) n old new) next
-      (mid, so_far, (more, fewer, record { made = t; seats_match = matches; notified_first = notified; in_order = in_order; counts = counts }))
+      (mid, so_far, (more, fewer, record { made = t; same_number = number; seats_match = matches; notified_first = notified; in_order = in_order; counts = counts }))
 
 -- where all seats are free, all connections are closed
 pub all_free_closed : (hall : HallState) (seats : List (Option SeatState)) → MatchesSeats hall seats → ((k : ℕ) → seat_at seats k ≡ None) → AreAllClosed hall

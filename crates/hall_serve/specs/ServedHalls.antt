@@ -153,6 +153,7 @@ pub record CountsTurn (made : Turn) (offered : ℕ) (old new : HallState) : Type
 pub record MakesTurn {M E W : Type 0} (Keeps : List E → W → W → Type 0) (takes_more : Bool)
     (old new : HallServer M W) : Type 0 where
   pub made : Turn
+  pub same_number : length new.seats ≡ length old.seats
   pub seats_match : MatchesSeats new.hall new.seats
   pub notified_first : WritesOrAnswers Keeps old new
   pub in_order : AreTriesInOrder old.seats old.hall new.hall

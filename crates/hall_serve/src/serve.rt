@@ -46,6 +46,7 @@ pub fn serve_hall<M: Machine, H: Hall, W: Watchers<M::Edit>>(
 ) -> HallSummary
     requires seats_match { MatchesSeats (H.state hall.old) seats.old }
     requires room_left { M.takes machine.old (requests_left seats.old + count * 1000) }
+    ensures same_number { length seats.new ≡ length seats.old }
     ensures seats_match { MatchesSeats (H.state hall.new) seats.new }
     ensures serves_on { (all : List (Exchange M.Edit)) → HasServed (H.state hall.old) seats.old all
         → ServesOn (StepsInBytes M.steps) W.keeps all result.memory_failures

@@ -107,6 +107,7 @@ pub fn make_turn<M: Machine, H: Hall, W: Watchers<M::Edit>>(
 ) -> Turn
     requires seats_match { MatchesSeats (H.state hall.old) seats.old }
     requires room_left { M.takes machine.old (requests_left seats.old) }
+    ensures same_number { length seats.new ≡ length seats.old }
     ensures seats_match { MatchesSeats (H.state hall.new) seats.new }
     ensures serves_on { (all : List (Exchange M.Edit)) → HasServed (H.state hall.old) seats.old all
         → ServesOn (StepsInBytes M.steps) W.keeps all (memory_failures_in result)

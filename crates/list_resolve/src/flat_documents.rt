@@ -49,7 +49,7 @@ fn plain_name(alloc: Global, local: &str) -> Result<Name, AllocError>
 }
 
 // An empty element of this name.
-fn empty(alloc: Global, local: &str) -> Result<Element, AllocError>
+fn empty_element(alloc: Global, local: &str) -> Result<Element, AllocError>
     requires { IsTrue (is_ascii local.now) }
     ensures named_alone { IfOk result
         (λ made. made ≡ tree_of (name_from_parts [] local.now) [] [] (content_of_children [])) }
@@ -76,7 +76,7 @@ fn push_uri(alloc: Global, entry: &mut Element, uri: &Text) -> Result<(), AllocE
 fn entry(alloc: Global, uri: &Text) -> Result<Element, AllocError>
     ensures ok { IfOk result (λ made. made ≡ entry_tree uri.now) }
 {
-    let mut entry = empty(alloc, "entry")?;
+    let mut entry = empty_element(alloc, "entry")?;
     push_uri(alloc, &mut entry, uri)?;
     Ok(entry)
 }
@@ -97,7 +97,7 @@ fn push_entries(alloc: Global, list: &mut Element, uris: &[Text]) -> Result<(), 
 fn list(alloc: Global, uris: &[Text]) -> Result<Element, AllocError>
     ensures ok { IfOk result (λ made. made ≡ list_tree uris.now) }
 {
-    let mut list = empty(alloc, "list")?;
+    let mut list = empty_element(alloc, "list")?;
     push_entries(alloc, &mut list, uris)?;
     Ok(list)
 }
@@ -122,7 +122,7 @@ fn push_list(alloc: Global, root: &mut Element, uris: &[Text]) -> Result<(), All
 fn flat_list_root(alloc: Global, uris: &[Text]) -> Result<Element, AllocError>
     ensures ok { IfOk result (λ made. made ≡ flat_tree uris.now) }
 {
-    let mut root = empty(alloc, "resource-lists")?;
+    let mut root = empty_element(alloc, "resource-lists")?;
     push_list(alloc, &mut root, uris)?;
     Ok(root)
 }

@@ -103,7 +103,7 @@ fn flat_list_of(
     walk_inside(
         ground,
         CHAIN_LIMIT,
-        &VisitChain::empty(),
+        &VisitChain::new(),
         service.kind,
         &scope,
         service.element,

@@ -43,7 +43,7 @@ impl<'a> Model for VisitChain<'a> {
 
 impl<'a> VisitChain<'a> {
     /// The empty chain. Does not allocate.
-    pub(crate) fn empty() -> VisitChain<'a>
+    pub(crate) fn new() -> VisitChain<'a>
         ensures holds_no_places { result ≡ [] }
     {
         VisitChain { link: Link::End }

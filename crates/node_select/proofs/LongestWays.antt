@@ -7,7 +7,7 @@ use Rattle.xml_tree.specs.TreeScopes.{inside}
 use Rattle.node_select.specs.declared.descent.Reached.{Reached}
 use Rattle.node_select.specs.declared.selector.Step.{Step}
 use Rattle.node_select.specs.inner.LongestMatches.{ReachesBelow}
-use Rattle.node_select.specs.Selection.{is_named, is_tested, selected_child, selected_path_among, matched_depth, longest_match_in, IsLongestMatch, SelectsPath}
+use Rattle.node_select.specs.Selection.{step_tests, selected_child, selected_path_among, matched_depth, longest_match_in, IsLongestMatch, SelectsPath}
 use Rattle.node_select.proofs.ReachLemmas.{among_next, depth_next, longer, longest_is, path_is, sole_selected}
 
 -- one step leads to a child, and the other steps on from there
@@ -30,11 +30,11 @@ same_path None p h = cc
 same_path (Some q) p h = h
 
 -- the root matches the first step, and the other steps lead on
-pub from_root : (s : Step) (steps : List Step) (root : Tree) (below : Reached) → IsTrue (matches (is_named [] s) (is_tested [] s) s.position (root ∷ []) 0) → ReachesBelow (root.decls ∷ []) (child_elements_of root) steps [] below → SelectsPath (s ∷ take below.steps steps) root below.path
+pub from_root : (s : Step) (steps : List Step) (root : Tree) (below : Reached) → IsTrue (matches (step_tests [] s) (root ∷ []) 0) → ReachesBelow (root.decls ∷ []) (child_elements_of root) steps [] below → SelectsPath (s ∷ take below.steps steps) root below.path
 from_root s steps root below m b = (path_is (s ∷ take below.steps steps) root below.path).0 (rw m (same_path _ _ b.leads))
 
-pub longest_next : (s : Step) (steps : List Step) (root : Tree) → IsTrue (matches (is_named [] s) (is_tested [] s) s.position (root ∷ []) 0) → longest_match_in (s ∷ steps) root ≡ suc (matched_depth (root.decls ∷ []) (child_elements_of root) steps)
-longest_next s steps root m = depth_next [] (root ∷ []) s steps 0 root (sole_selected (is_named [] s) (is_tested [] s) s.position root ∙ ap (λ b. cond b (Some 0) None) m) refl
+pub longest_next : (s : Step) (steps : List Step) (root : Tree) → IsTrue (matches (step_tests [] s) (root ∷ []) 0) → longest_match_in (s ∷ steps) root ≡ suc (matched_depth (root.decls ∷ []) (child_elements_of root) steps)
+longest_next s steps root m = depth_next [] (root ∷ []) s steps 0 root (sole_selected (step_tests [] s) root ∙ ap (λ b. cond b (Some 0) None) m) refl
 
 -- the computed number of steps is the greatest
 pub most : (steps : List Step) (root : Tree) (n : ℕ) → n ≡ longest_match_in steps root → IsLongestMatch steps root n
@@ -52,7 +52,7 @@ first_and_rest [] s le is = absurd (omega arith)
 first_and_rest (x ∷ steps) s le is = ap (λ (y : Step). y ∷ steps) (sym is) ∙ ap (λ (l : List Step). s ∷ l) (sym (all_taken steps (length (x ∷ steps) - 1) (omega arith)))
 
 -- where the root matches, and the other steps lead on
-pub onwards : (s : Step) (steps : List Step) (root : Tree) (below reached : Reached) → IsTrue (matches (is_named [] s) (is_tested [] s) s.position (root ∷ []) 0) → ReachesBelow (root.decls ∷ []) (child_elements_of root) steps [] below → reached.steps ≡ suc below.steps → reached.path ≡ below.path
+pub onwards : (s : Step) (steps : List Step) (root : Tree) (below reached : Reached) → IsTrue (matches (step_tests [] s) (root ∷ []) 0) → ReachesBelow (root.decls ∷ []) (child_elements_of root) steps [] below → reached.steps ≡ suc below.steps → reached.path ≡ below.path
     → IsLongestMatch (s ∷ steps) root reached.steps × (0 < reached.steps → SelectsPath (take reached.steps (s ∷ steps)) root reached.path)
 onwards s steps root below reached m b counted at = (
   most (s ∷ steps) root reached.steps (counted ∙ ap suc b.counted ∙ sym (longest_next s steps root m)),

@@ -4,7 +4,7 @@ use Rattle.std.proofs.Math.Seq.{drop-cons}
 use Rattle.std.proofs.lemmas.List.{drop_all}
 use Rattle.std.proofs.lemmas.List.Sums.{count_by_more_yes, count_by_more_no}
 use Rattle.std.proofs.lemmas.Option.{get_or_from_slice_get}
-use Rattle.node_select.specs.StepSelection.{Matches, child_matches, matches}
+use Rattle.node_select.specs.StepSelection.{StepTests, Matches, child_matches, matches}
 use Rattle.node_select.proofs.OnePass.{OnlyBelow, only_first, only_more}
 use Rattle.node_select.proofs.SelectionAgreement.{matches_is}
 use Rattle.xml_tree.specs.Tree.{Content, last, more, comment_node, Tree, child_elements, child_elements_of, height, content_height}
@@ -62,10 +62,10 @@ count_next p xs i i' before before' x there lt same next counted =
     rw next z
 
 -- the test of the current child
-pub here : {A : Type 0} (named tested : A → Bool) (position : Option ℕ) (xs : List A) (i before : ℕ) (x : A) → slice_get xs i ≡ Some x → before ≡ count_by named (take i xs) → IsTrue (child_matches named tested position before (Some x)) ↔ Matches named tested position xs i
-here named tested position xs i before x there same =
-    let m = matches_is named tested position xs i in
-    let e : child_matches named tested position before (Some x) ≡ matches named tested position xs i = ap (λ n. child_matches named tested position n (Some x)) same ∙ ap (child_matches named tested position (count_by named (take i xs))) (sym there) in (
+pub here : {A : Type 0} (step : StepTests A) (xs : List A) (i before : ℕ) (x : A) → slice_get xs i ≡ Some x → before ≡ count_by step.named (take i xs) → IsTrue (child_matches step before (Some x)) ↔ Matches step xs i
+here step xs i before x there same =
+    let m = matches_is step xs i in
+    let e : child_matches step before (Some x) ≡ matches step xs i = ap (λ n. child_matches step n (Some x)) same ∙ ap (child_matches step (count_by step.named (take i xs))) (sym there) in (
       λ h. m.0 (sym e ∙ h),
       λ x. e ∙ m.1 x,
     )

@@ -1,9 +1,9 @@
 -- One pass over the children that keeps the number of those that passed the name test, and the
 -- only match so far.
-use Rattle.std.proofs.Common.{◌≡◌, ℕ, ◌+◌, ◌<◌, inl, inr, ◌↔◌, Bool, true, false, Option, Some, None, ap, arith, is_some, List, length, subst}
+use Rattle.std.proofs.Common.{◌≡◌, ℕ, ◌+◌, ◌<◌, inl, inr, ◌↔◌, true, false, Option, Some, None, ap, arith, is_some, List, length, subst}
 use Rattle.std.proofs.lemmas.Bool.{cases_lt}
 use Rattle.std.proofs.lemmas.Option.{same_Some, none-some, slice_get_within}
-use Rattle.node_select.specs.StepSelection.{Matches, Selects, selected_number}
+use Rattle.node_select.specs.StepSelection.{StepTests, Matches, Selects, selected_number}
 use Rattle.node_select.proofs.SelectionAgreement.{answer_is}
 
 -- below n no number has the property, or this one alone
@@ -22,20 +22,20 @@ only_first P n None none h here = (omega arith, here, λ k lt p. elim (cases_lt 
 only_first P n (Some f) none h here = cc
 
 -- at the end the only number is the selected one
-pub only_is_selected : {A : Type 0} (named tested : A → Bool) (position : Option ℕ) (child_elements : List A) (n : ℕ) (found : Option ℕ) → n ≡ length child_elements → OnlyBelow (Matches named tested position child_elements) n found → found ≡ selected_number named tested position child_elements
-only_is_selected named tested position child_elements n found end only = answer_is named tested position child_elements found (by found only)
+pub only_is_selected : {A : Type 0} (step : StepTests A) (child_elements : List A) (n : ℕ) (found : Option ℕ) → n ≡ length child_elements → OnlyBelow (Matches step child_elements) n found → found ≡ selected_number step child_elements
+only_is_selected step child_elements n found end only = answer_is step child_elements found (by found only)
   where
-    by : (o : Option ℕ) → OnlyBelow (Matches named tested position child_elements) n o → (i : ℕ) → (o ≡ Some i) ↔ Selects named tested position child_elements i
+    by : (o : Option ℕ) → OnlyBelow (Matches step child_elements) n o → (i : ℕ) → (o ≡ Some i) ↔ Selects step child_elements i
     by None h i = (λ e. absurd (none-some i e), λ s. absurd (h i (let lt = slice_get_within child_elements i s.this.child_element s.this.there in omega arith) s.this))
     by (Some f) h i = (
-      λ e. subst (λ (z : ℕ). Selects named tested position child_elements z) (same_Some f i e) (record { this = h.1; alone = λ k m. h.2 k (let lt = slice_get_within child_elements k m.child_element m.there in omega arith) m }),
+      λ e. subst (λ (z : ℕ). Selects step child_elements z) (same_Some f i e) (record { this = h.1; alone = λ k m. h.2 k (let lt = slice_get_within child_elements k m.child_element m.there in omega arith) m }),
       λ s. ap (λ (z : ℕ). Some z) (s.alone f h.1),
     )
 
 -- where a second number matches, none is selected
-pub second_is_none : {A : Type 0} (named tested : A → Bool) (position : Option ℕ) (child_elements : List A) (n : ℕ) (found : Option ℕ) → is_some found ≡ true → OnlyBelow (Matches named tested position child_elements) n found → Matches named tested position child_elements n → None ≡ selected_number named tested position child_elements
-second_is_none named tested position child_elements n None some only m = cc
-second_is_none named tested position child_elements n (Some f) some only m = answer_is named tested position child_elements None (λ i. (
+pub second_is_none : {A : Type 0} (step : StepTests A) (child_elements : List A) (n : ℕ) (found : Option ℕ) → is_some found ≡ true → OnlyBelow (Matches step child_elements) n found → Matches step child_elements n → None ≡ selected_number step child_elements
+second_is_none step child_elements n None some only m = cc
+second_is_none step child_elements n (Some f) some only m = answer_is step child_elements None (λ i. (
   λ e. absurd (none-some i e),
   λ s. let a = s.alone f only.1 in let b = s.alone n m in let lt = only.0 in absurd (omega arith),
 ))

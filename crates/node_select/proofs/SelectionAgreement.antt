@@ -2,14 +2,27 @@
 -- are selected alike.
 use Rattle.std.proofs.Common.{◌≡◌, ◌≢◌, ◌↔◌, ℕ, zero, suc, ◌+◌, ◌≤◌, ◌<◌, Bool, true, false, cond, ◌&&◌, List, [], ◌∷◌, take, map, length, count_by, Option, Some, None, refl, sym, ap, ◌∙◌, subst, arith, IsTrue, slice_get, eq-eqb, eqb-true}
 use Rattle.std.proofs.lemmas.Option.{same_Some, none-some, slice_get_within}
-use Rattle.node_select.specs.StepSelection.{IsAtPosition, Matches, Selects, HaveSameTestResults, is_at_position, child_matches, matches, passing_numbers, only_item, selected_number}
+use Rattle.node_select.specs.StepSelection.{StepTests, IsAtPosition, Matches, Selects, HaveSameTestResults, is_at_position, child_matches, matches, passing_numbers, only_item, selected_number}
 use Rattle.node_select.proofs.ListEdits.{count-cons}
 
-pub one_selected : {A : Type 0} (named tested : A → Bool) (position : Option ℕ) (child_elements : List A) (i k : ℕ) → Selects named tested position child_elements i → Selects named tested position child_elements k → i ≡ k
-one_selected named tested position child_elements i k s r = r.alone i s.this
+pub one_selected : {A : Type 0} (step : StepTests A) (child_elements : List A) (i k : ℕ) → Selects step child_elements i → Selects step child_elements k → i ≡ k
+one_selected step child_elements i k s r = r.alone i s.this
 
-pub no_zeroth : {A : Type 0} (named tested : A → Bool) (child_elements : List A) (i : ℕ) → Matches named tested (Some 0) child_elements i → ⊥
-no_zeroth named tested child_elements i m = let at : count_by named (take i child_elements) + 1 ≡ 0 = m.at_position in omega arith
+-- ---- the position
+pub any_position : (o : Option ℕ) (before : ℕ) → o ≡ None → IsAtPosition o before
+any_position None before is = tt
+any_position (Some n) before is = cc
+
+pub position_count : (o : Option ℕ) (n before : ℕ) → o ≡ Some n → IsAtPosition o before → before + 1 ≡ n
+position_count None n before is h = cc
+position_count (Some m) n before is h = let same : m ≡ n = same_Some m n is in h ∙ same
+
+pub position_from_count : (o : Option ℕ) (n before : ℕ) → o ≡ Some n → before + 1 ≡ n → IsAtPosition o before
+position_from_count None n before is h = cc
+position_from_count (Some m) n before is h = let same : m ≡ n = same_Some m n is in h ∙ sym same
+
+pub no_zeroth : {A : Type 0} (step : StepTests A) (child_elements : List A) (i : ℕ) → step.position ≡ Some 0 → Matches step child_elements i → ⊥
+no_zeroth step child_elements i is m = let at = position_count step.position 0 (count_by step.named (take i child_elements)) is m.at_position in omega arith
 
 -- ---- the test of one child
 pub is_at_position_is : (position : Option ℕ) (before : ℕ) → IsTrue (is_at_position position before) ↔ IsAtPosition position before
@@ -21,17 +34,17 @@ three true true c = (λ h. (refl, refl, h), λ h. h.2)
 three true false c = (λ h. cc, λ h. let f : false ≡ true = h.1 in cc)
 three false b c = (λ h. cc, λ h. let f : false ≡ true = h.0 in cc)
 
-decided : {A : Type 0} (named tested : A → Bool) (position : Option ℕ) (child_elements : List A) (i : ℕ) (o : Option A) → slice_get child_elements i ≡ o → IsTrue (child_matches named tested position (count_by named (take i child_elements)) o) ↔ Matches named tested position child_elements i
-decided named tested position child_elements i None there = (λ h. cc, λ m. absurd (none-some m.child_element (sym there ∙ m.there)))
-decided named tested position child_elements i (Some child_element) there =
-    let t = three (named child_element) (is_at_position position (count_by named (take i child_elements))) (tested child_element) in
-    let p = is_at_position_is position (count_by named (take i child_elements)) in (
+decided : {A : Type 0} (step : StepTests A) (child_elements : List A) (i : ℕ) (o : Option A) → slice_get child_elements i ≡ o → IsTrue (child_matches step (count_by step.named (take i child_elements)) o) ↔ Matches step child_elements i
+decided step child_elements i None there = (λ h. cc, λ m. absurd (none-some m.child_element (sym there ∙ m.there)))
+decided step child_elements i (Some child_element) there =
+    let t = three (step.named child_element) (is_at_position step.position (count_by step.named (take i child_elements))) (step.tested child_element) in
+    let p = is_at_position_is step.position (count_by step.named (take i child_elements)) in (
       λ h. let x = t.0 h in record { child_element = child_element; there = there; is_named = x.0; at_position = p.0 x.1; is_tested = x.2 },
-      λ m. let same : m.child_element ≡ child_element = same_Some _ _ (sym m.there ∙ there) in t.1 (ap named (sym same) ∙ m.is_named, p.1 m.at_position, ap tested (sym same) ∙ m.is_tested),
+      λ m. let same : m.child_element ≡ child_element = same_Some _ _ (sym m.there ∙ there) in t.1 (ap step.named (sym same) ∙ m.is_named, p.1 m.at_position, ap step.tested (sym same) ∙ m.is_tested),
     )
 
-pub matches_is : {A : Type 0} (named tested : A → Bool) (position : Option ℕ) (child_elements : List A) (i : ℕ) → IsTrue (matches named tested position child_elements i) ↔ Matches named tested position child_elements i
-matches_is named tested position child_elements i = decided named tested position child_elements i (slice_get child_elements i) refl
+pub matches_is : {A : Type 0} (step : StepTests A) (child_elements : List A) (i : ℕ) → IsTrue (matches step child_elements i) ↔ Matches step child_elements i
+matches_is step child_elements i = decided step child_elements i (slice_get child_elements i) refl
 
 -- ---- the only number that passes
 next : (i m : ℕ) → i ≤ m → i ≢ m → suc i ≤ m
@@ -90,10 +103,10 @@ only_is (i ∷ []) n h = cc
 only_is (i ∷ j ∷ is) n h = cc
 
 -- ---- the relation and the function
-pub selected_is : {A : Type 0} (named tested : A → Bool) (position : Option ℕ) (child_elements : List A) (i : ℕ) → (selected_number named tested position child_elements ≡ Some i) ↔ Selects named tested position child_elements i
-selected_is named tested position child_elements i =
-    let p : ℕ → Bool = matches named tested position child_elements in
-    let is : (k : ℕ) → IsTrue (p k) ↔ Matches named tested position child_elements k = matches_is named tested position child_elements in (
+pub selected_is : {A : Type 0} (step : StepTests A) (child_elements : List A) (i : ℕ) → (selected_number step child_elements ≡ Some i) ↔ Selects step child_elements i
+selected_is step child_elements i =
+    let p : ℕ → Bool = matches step child_elements in
+    let is : (k : ℕ) → IsTrue (p k) ↔ Matches step child_elements k = matches_is step child_elements in (
       λ h. let one = pass_one p (length child_elements) 0 i (only_is (passing_numbers p 0 (length child_elements)) i h) in record {
         this = (is i).0 one.0;
         alone = λ k m. one.2 k (omega arith) (omega (arith, slice_get_within child_elements k m.child_element m.there)) ((is k).1 m);
@@ -102,13 +115,13 @@ selected_is named tested position child_elements i =
     )
 
 -- a result that is some number exactly when that is selected is the computed one
-pub answer_is : {A : Type 0} (named tested : A → Bool) (position : Option ℕ) (child_elements : List A) (r : Option ℕ) → ((i : ℕ) → (r ≡ Some i) ↔ Selects named tested position child_elements i) → r ≡ selected_number named tested position child_elements
-answer_is named tested position child_elements (Some i) h = sym ((selected_is named tested position child_elements i).1 ((h i).0 refl))
-answer_is named tested position child_elements None h = by (selected_number named tested position child_elements) refl
+pub answer_is : {A : Type 0} (step : StepTests A) (child_elements : List A) (r : Option ℕ) → ((i : ℕ) → (r ≡ Some i) ↔ Selects step child_elements i) → r ≡ selected_number step child_elements
+answer_is step child_elements (Some i) h = sym ((selected_is step child_elements i).1 ((h i).0 refl))
+answer_is step child_elements None h = by (selected_number step child_elements) refl
   where
-    by : (o : Option ℕ) → selected_number named tested position child_elements ≡ o → None ≡ o
+    by : (o : Option ℕ) → selected_number step child_elements ≡ o → None ≡ o
     by None e = refl
-    by (Some i) e = (h i).1 ((selected_is named tested position child_elements i).0 e)
+    by (Some i) e = (h i).1 ((selected_is step child_elements i).0 e)
 
 -- ---- children that the tests can't distinguish
 heads : {X : Type 0} (x y : X) (xs ys : List X) → x ∷ xs ≡ y ∷ ys → (x ≡ y) × (xs ≡ ys)
@@ -131,30 +144,32 @@ partner p q (a ∷ xs) [] i x h there = cc
 partner p q (a ∷ xs) (b ∷ ys) zero x h there = (b, refl, ap p (sym (same_Some a x there)) ∙ (heads (p a) (q b) (map p xs) (map q ys) h).0)
 partner p q (a ∷ xs) (b ∷ ys) (suc i) x h there = partner p q xs ys i x (heads (p a) (q b) (map p xs) (map q ys) h).1 there
 
-pub alike_one_way : {A B : Type 0} (named tested : A → Bool) (named' tested' : B → Bool) (position : Option ℕ) (xs : List A) (ys : List B) (i : ℕ) → HaveSameTestResults named tested named' tested' xs ys → Matches named tested position xs i → Matches named' tested' position ys i
-alike_one_way named tested named' tested' position xs ys i a m =
-    let n = partner named named' xs ys i m.child_element a.same_named m.there in
-    let t = partner tested tested' xs ys i m.child_element a.same_tested m.there in
+pub alike_one_way : {A B : Type 0} (step : StepTests A) (step' : StepTests B) (xs : List A) (ys : List B) (i : ℕ) → HaveSameTestResults step step' xs ys → Matches step xs i → Matches step' ys i
+alike_one_way step step' xs ys i a m =
+    let n = partner step.named step'.named xs ys i m.child_element a.same_named m.there in
+    let t = partner step.tested step'.tested xs ys i m.child_element a.same_tested m.there in
     let same : t.0 ≡ n.0 = same_Some _ _ (sym t.1 ∙ n.1) in record {
       child_element = n.0;
       there = n.1;
       is_named = sym n.2 ∙ m.is_named;
-      at_position = subst (λ k. IsAtPosition position k) (same_count named named' xs ys i a.same_named) m.at_position;
-      is_tested = ap tested' (sym same) ∙ sym t.2 ∙ m.is_tested;
+      at_position =
+          subst (λ (o : Option ℕ). IsAtPosition o (count_by step'.named (take i ys))) a.same_position
+          (subst (λ (k : ℕ). IsAtPosition step.position k) (same_count step.named step'.named xs ys i a.same_named) m.at_position);
+      is_tested = ap step'.tested (sym same) ∙ sym t.2 ∙ m.is_tested;
     }
 
-pub turned : {A B : Type 0} (named tested : A → Bool) (named' tested' : B → Bool) (xs : List A) (ys : List B) → HaveSameTestResults named tested named' tested' xs ys → HaveSameTestResults named' tested' named tested ys xs
-turned named tested named' tested' xs ys a = record { same_named = sym a.same_named; same_tested = sym a.same_tested }
+pub turned : {A B : Type 0} (step : StepTests A) (step' : StepTests B) (xs : List A) (ys : List B) → HaveSameTestResults step step' xs ys → HaveSameTestResults step' step ys xs
+turned step step' xs ys a = record { same_position = sym a.same_position; same_named = sym a.same_named; same_tested = sym a.same_tested }
 
-pub match_alike : {A B : Type 0} (named tested : A → Bool) (named' tested' : B → Bool) (position : Option ℕ) (xs : List A) (ys : List B) (i : ℕ) → HaveSameTestResults named tested named' tested' xs ys → Matches named tested position xs i ↔ Matches named' tested' position ys i
-match_alike named tested named' tested' position xs ys i a = (
-  alike_one_way named tested named' tested' position xs ys i a,
-  alike_one_way named' tested' named tested position ys xs i (turned named tested named' tested' xs ys a),
+pub match_alike : {A B : Type 0} (step : StepTests A) (step' : StepTests B) (xs : List A) (ys : List B) (i : ℕ) → HaveSameTestResults step step' xs ys → Matches step xs i ↔ Matches step' ys i
+match_alike step step' xs ys i a = (
+  alike_one_way step step' xs ys i a,
+  alike_one_way step' step ys xs i (turned step step' xs ys a),
 )
 
-pub select_alike : {A B : Type 0} (named tested : A → Bool) (named' tested' : B → Bool) (position : Option ℕ) (xs : List A) (ys : List B) (i : ℕ) → HaveSameTestResults named tested named' tested' xs ys → Selects named tested position xs i ↔ Selects named' tested' position ys i
-select_alike named tested named' tested' position xs ys i a =
-    let m = λ (k : ℕ). match_alike named tested named' tested' position xs ys k a in (
+pub select_alike : {A B : Type 0} (step : StepTests A) (step' : StepTests B) (xs : List A) (ys : List B) (i : ℕ) → HaveSameTestResults step step' xs ys → Selects step xs i ↔ Selects step' ys i
+select_alike step step' xs ys i a =
+    let m = λ (k : ℕ). match_alike step step' xs ys k a in (
       λ s. record { this = (m i).0 s.this; alone = λ k x. s.alone k ((m k).1 x) },
       λ s. record { this = (m i).1 s.this; alone = λ k x. s.alone k ((m k).0 x) },
     )

@@ -2,21 +2,18 @@
 -- 8.2.3). Gap j is before the j-th child, and the last gap after all children. Which of the
 -- lawful gaps is taken is this server's choice: the last one at which the result is valid.
 use Rattle.std.specs.Prelude.{◌≡◌, ◌⊎◌, ℕ, zero, suc, ◌<◌, ◌≤◌, Bool, true, false, List, insert}
-use Rattle.std.specs.Prelude.{Option, None, Some, Result, Ok, Err}
-use Rattle.node_select.specs.StepSelection.{Matches, Selects}
+use Rattle.std.specs.Prelude.{None, Result, Ok, Err}
+use Rattle.node_select.specs.StepSelection.{StepTests, Matches, Selects}
 
 -- after the new child is inserted into the gap, the step selects exactly it
-abbrev pub IsLawfulInsertion : {A : Type 0} → (A → Bool) → (A → Bool) → Option ℕ → List A → A → ℕ
-    → Type 0
-IsLawfulInsertion named tested position child_elements new gap =
-    Selects named tested position (insert child_elements gap new) gap
+abbrev pub IsLawfulInsertion : {A : Type 0} → StepTests A → List A → A → ℕ → Type 0
+IsLawfulInsertion step child_elements new gap = Selects step (insert child_elements gap new) gap
 
 -- no child keeps the new one from being selected, whichever gap it is inserted into: without a
 -- position no child matches yet
-abbrev pub AllowsInsertion : {A : Type 0} → (A → Bool) → (A → Bool) → Option ℕ → List A → Type 0
-AllowsInsertion named tested None child_elements = (k : ℕ)
-    → Matches named tested None child_elements k → ⊥
-AllowsInsertion named tested (Some n) child_elements = Unit {0}
+abbrev pub AllowsInsertion : {A : Type 0} → StepTests A → List A → Type 0
+AllowsInsertion step child_elements =
+    step.position ≡ None → (k : ℕ) → Matches step child_elements k → ⊥
 
 -- of `gaps` gaps, the last that is lawful and valid
 pub record IsLastValidGap (lawful valid : ℕ → Type 0) (gaps gap : ℕ) : Type 0 where

@@ -12,6 +12,7 @@ use Rattle.xml_names.specs.ExpandedNames.{ExpandedName, element_name, attr_name}
 use Rattle.xml_names.specs.declared.names.Decl.{Decl}
 use Rattle.xml_names.specs.declared.names.Attr.{Attr}
 use Rattle.node_select.specs.StepSelection as step_laws
+use Rattle.node_select.specs.StepSelection.{StepTests}
 use Rattle.node_select.specs.declared.selector.NameTest.{NameTest}
 use Rattle.node_select.specs.declared.selector.NameTest.TheVariants.{Any, Named}
 use Rattle.node_select.specs.declared.selector.AttrTest.{AttrTest}
@@ -52,12 +53,17 @@ abbrev pub is_tested : List (List Decl) → Step → Tree → Bool
 is_tested c step child_element =
     some_attr_passes (inside c child_element) step.test child_element.attrs
 
+-- the tests of a step, in the scope around the children
+abbrev pub step_tests : List (List Decl) → Step → StepTests Tree
+step_tests c step =
+    record { named = is_named c step; position = step.position; tested = is_tested c step }
+
 -- ---- selection as a relation
 
 -- the i-th of these children, in the scope around them, matches the step, and no other does
 abbrev pub SelectsChild : List (List Decl) → Step → List Tree → ℕ → Type 0
 SelectsChild c step child_elements i =
-    step_laws.Selects (is_named c step) (is_tested c step) step.position child_elements i
+    step_laws.Selects (step_tests c step) child_elements i
 
 -- at each depth the child on the path matches its step, and no other does
 abbrev pub SelectsAmong : List (List Decl) → List Tree → List Step → List ℕ → Type 0
@@ -100,7 +106,7 @@ pub record IsLongestMatch (steps : List Step) (root : Tree) (k : ℕ) : Type 0 w
 -- the number of the only child that matches
 abbrev pub selected_child : List (List Decl) → Step → List Tree → Option ℕ
 selected_child c step child_elements =
-    step_laws.selected_number (is_named c step) (is_tested c step) step.position child_elements
+    step_laws.selected_number (step_tests c step) child_elements
 
 -- the path from these children down
 abbrev pub selected_path_among : List (List Decl) → List Tree → List Step → Option (List ℕ)
@@ -117,7 +123,7 @@ selected_path_among c child_elements (step ∷ steps) =
 abbrev pub selected_element_path : List Step → Tree → Option (List ℕ)
 selected_element_path [] root = None
 selected_element_path (step ∷ steps) root =
-    if step_laws.matches (is_named [] step) (is_tested [] step) step.position (root ∷ []) 0
+    if step_laws.matches (step_tests [] step) (root ∷ []) 0
     then selected_path_among (root.decls ∷ []) (child_elements_of root) steps
     else None
 

@@ -1,6 +1,6 @@
 //! Which child of an element a step selects, and which attribute a name means.
-ghost use Rattle.std.specs.Prelude.{◌≡◌, ◌↔◌, ◌<◌, ◌+◌, ◌++◌, ◌^◌, ℕ, [], IsTrue, map, chars};
-ghost use Rattle.std.specs.Prelude.{position, cond, None, Some};
+ghost use Rattle.std.specs.Prelude.{◌≡◌, ◌↔◌, ◌<◌, ◌+◌, ◌++◌, ◌^◌, ◌&&◌, ℕ, [], IsTrue, map};
+ghost use Rattle.std.specs.Prelude.{chars, position, cond, None, Some};
 ghost use Rattle.xml_tree.specs.TreeScopes.{inside};
 ghost use Rattle.std.specs.List.{find, list_any};
 ghost use Rattle.std.specs.Option.{option_copied};
@@ -10,7 +10,7 @@ ghost use Rattle.xml_names.specs.ExpandedNames.{element_name, attr_name};
 ghost use Rattle.node_select.specs.StepSelection.{is_at_position, child_matches};
 ghost use Rattle.node_select.specs.Names.{has_expanded_name, uri_or_empty};
 ghost use Rattle.node_select.specs.Selection.{some_attr_passes, passes_attr_test, is_attr_named};
-ghost use Rattle.node_select.specs.Selection.{is_named, is_tested};
+ghost use Rattle.node_select.specs.Selection.{is_named, is_tested, step_tests};
 ghost use Rattle.node_select.specs.Selection.{selected_child};
 
 use crate::selector::{AttrTest, NameTest, Step};
@@ -230,8 +230,7 @@ pub(crate) fn is_match(
 ) -> bool
     requires { before + 1 < 2 ^ 64 }
     ensures exact { result
-        ≡ child_matches (is_named scope.now step.now)
-        (is_tested scope.now step.now) step.now.position before (Some child_element.now) }
+        ≡ child_matches (step_tests scope.now step.now) before (Some child_element.now) }
 {
     is_match_if(
         alloc,
@@ -254,8 +253,8 @@ fn is_match_if(
 ) -> bool
     requires { before + 1 < 2 ^ 64 }
     ensures exact { result
-        ≡ child_matches (λ _. named) (is_tested scope.now step.now) step.now.position before
-        (Some child_element.now) }
+        ≡ (named && (is_at_position step.now.position before
+        && is_tested scope.now step.now child_element.now)) }
 {
     named && (is_at_position(step.position, before) && is_tested(alloc, scope, step, child_element))
 }
@@ -306,8 +305,8 @@ fn is_match_without_position(
 ) -> bool
     requires { step.now.position ≡ None }
     ensures exact { (before : ℕ)
-        → result ≡ child_matches (is_named scope.now step.now)
-        (is_tested scope.now step.now) step.now.position before (Some child_element.now) }
+        → result
+        ≡ child_matches (step_tests scope.now step.now) before (Some child_element.now) }
 {
     is_tested(alloc, scope, step, child_element) && is_named(alloc, scope, step, child_element)
 }

@@ -19,7 +19,7 @@ use Rattle.patch_rules.specs.PatchOperations.{AtAttr, AtElement, locate}
 use Rattle.patch_rules.specs.Selectors.{Reading}
 use Rattle.patch_rules.specs.readers.AppliedOperations.{apply_operation}
 use Rattle.edit_ops.specs.Notes.{AreNotesOf, Note, note_of, tag_after, tree_after}
-use Rattle.patch_rules.specs.Notices.{aggregate_notice, count_declarations, first_free_candidate, is_prefix_taken, operations, patching_notice, prefix_for}
+use Rattle.patch_rules.specs.Notices.{aggregate_notice, count_declarations, first_free_candidate, is_prefix_declared, operations, patching_notice, prefix_for}
 use Rattle.edit_ops.specs.DiffOperations.{attr_path_text, operation}
 use Rattle.patch_rules.specs.Replay.{IsReplayOutcome, is_notice}
 use Rattle.patch_rules.specs.readers.Replay.{apply_operations}
@@ -91,7 +91,7 @@ aggregate_replayed is_mine root sel tag t ns mine h told few =
 diff_prefix : (tag : ℕ) (t : Tree) (ns : List Note) → AreNotesOf tag t ns → AreDiffableTrees t ns → HasFewNotes ns → IsDiffPrefix (prefix_for ns)
 diff_prefix tag t ns h told few =
     let os = operations [] ns in
-    IsDiffPrefix-candidate_prefix (first_free_candidate (is_prefix_taken os) (count_declarations os) 0) (omega (arith, first_low (is_prefix_taken os) (count_declarations os) 0, few_declarations tag t ns h told few))
+    IsDiffPrefix-candidate_prefix (first_free_candidate (is_prefix_declared os) (count_declarations os) 0) (omega (arith, first_low (is_prefix_declared os) (count_declarations os) 0, few_declarations tag t ns h told few))
 
 pub read_back : (notice : Tree) → IsProperTree [] notice × (height notice ≤ 67) → is_notice notice ≡ true → NoticeReadsBack notice
 read_back notice h form =

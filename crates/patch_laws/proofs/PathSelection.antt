@@ -72,7 +72,7 @@ count_all (x ∷ xs) = omega (arith, count-cons (λ _. true) x xs, count_all xs)
 counted : {A : Type 0} (xs : List A) (k : ℕ) → k < length xs → count_by (λ _. true) (take k xs) ≡ k
 counted xs k h = omega (arith, count_all (take k xs), length-take k xs)
 
-selects_nth : {A : Type 0} (xs : List A) (n : ℕ) (x : A) → slice_get xs n ≡ Some x → Selects (λ _. true) (λ _. true) (Some (suc n)) xs n
+selects_nth : {A : Type 0} (xs : List A) (n : ℕ) (x : A) → slice_get xs n ≡ Some x → Selects (record { named = λ _. true; position = Some (suc n); tested = λ _. true }) xs n
 selects_nth xs n x there = record {
   this = record { child_element = x; there = there; is_named = refl; at_position = omega (arith, counted xs n (slice_get_within xs n x there)); is_tested = refl };
   alone = λ k m. omega (arith, m.at_position, counted xs k (slice_get_within xs k m.child_element m.there));
@@ -92,7 +92,7 @@ only_zero : {A : Type 0} (x y : A) (k : ℕ) → slice_get (x ∷ []) k ≡ Some
 only_zero x y zero h = refl
 only_zero x y (suc k) h = cc
 
-selects_root : {A : Type 0} (x : A) → Selects (λ _. true) (λ _. true) None (x ∷ []) 0
+selects_root : {A : Type 0} (x : A) → Selects (record { named = λ _. true; position = None; tested = λ _. true }) (x ∷ []) 0
 selects_root x = record { this = record { child_element = x; there = refl; is_named = refl; at_position = tt; is_tested = refl }; alone = λ k m. only_zero x m.child_element k m.there }
 
 pub selects_path : (bindings : List Decl) (default : List ℕ) (p : List ℕ) (t : Tree) → IsSome (at p t) → selected_element_path (steps bindings default p) t ≡ Some p

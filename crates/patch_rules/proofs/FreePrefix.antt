@@ -7,7 +7,7 @@ use Rattle.std.specs.Set.{is_member}
 use Rattle.xml_tree.specs.Tree.{Content, last, more, comment_node, Tree}
 use Rattle.xml_names.specs.declared.names.Decl.{Decl}
 use Rattle.patch_rules.specs.inner.DeclaredPrefixes.{declared_prefixes, content_prefixes}
-use Rattle.patch_rules.specs.Notices.{IsFirstFreeCandidate, candidate_prefix, count_declarations, count_content_declarations, declares_prefix, first_free_candidate, content_declares_prefix, is_prefix_taken}
+use Rattle.patch_rules.specs.Notices.{IsFirstFreeCandidate, candidate_prefix, count_declarations, count_content_declarations, declares_prefix, first_free_candidate, content_declares_prefix, is_prefix_declared}
 
 -- ---- candidates
 
@@ -46,7 +46,7 @@ declared_within p (more t n ds ats c rest) =
     ∙ ap (λ b. is_member bytes_eq (declared_prefixes ds) p || b) (sym (among-append p (content_prefixes c) (content_prefixes rest))) ∙ sym (among-append p (declared_prefixes ds) (content_prefixes c ++ content_prefixes rest))
 declared_within p (comment_node t x rest) = declared_within p rest
 
-pub taken_whole : (os : List Tree) (p : List ℕ) → is_prefix_taken os p ≡ is_member bytes_eq (whole os) p
+pub taken_whole : (os : List Tree) (p : List ℕ) → is_prefix_declared os p ≡ is_member bytes_eq (whole os) p
 taken_whole [] p = refl
 taken_whole (o ∷ os) p =
     (λ i. (declared_here p o.decls i || declared_within p o.content i) || taken_whole os p i)
@@ -123,9 +123,9 @@ first_from taken (suc f) k j le lt = by (taken (candidate_prefix k)) refl (first
     by true e rest = eq (nat_eq k j) refl e (λ more. rest more (rw e at lt))
     by false e rest = absurd (let z : j < k = rw e at lt in omega arith)
 
-pub is_first_free : (os : List Tree) → count_declarations os < 2 ^ 64 → IsFirstFreeCandidate (is_prefix_taken os) (first_free_candidate (is_prefix_taken os) (count_declarations os) 0)
+pub is_first_free : (os : List Tree) → count_declarations os < 2 ^ 64 → IsFirstFreeCandidate (is_prefix_declared os) (first_free_candidate (is_prefix_declared os) (count_declarations os) 0)
 is_first_free os room = record {
-  free = free_from (is_prefix_taken os) (count_declarations os) room (count_declarations os) 0 (whole os) (omega (arith, length-whole os)) (omega arith)
-      (λ i _ _ m. sym (taken_whole os (candidate_prefix i)) ∙ m) (is_prefix_taken os (candidate_prefix 0)) refl;
-  first = λ j lt. first_from (is_prefix_taken os) (count_declarations os) 0 j (omega arith) lt;
+  free = free_from (is_prefix_declared os) (count_declarations os) room (count_declarations os) 0 (whole os) (omega (arith, length-whole os)) (omega arith)
+      (λ i _ _ m. sym (taken_whole os (candidate_prefix i)) ∙ m) (is_prefix_declared os (candidate_prefix 0)) refl;
+  first = λ j lt. first_from (is_prefix_declared os) (count_declarations os) 0 j (omega arith) lt;
 }

@@ -35,8 +35,8 @@ content_declares_prefix prefix (more t n ds ats c rest) =
 content_declares_prefix prefix (comment_node t x rest) = content_declares_prefix prefix rest
 
 -- whether an operation, or an element in it, declares the prefix
-abbrev pub is_prefix_taken : List Tree → List ℕ → Bool
-is_prefix_taken operations prefix =
+abbrev pub is_prefix_declared : List Tree → List ℕ → Bool
+is_prefix_declared operations prefix =
     list_any
     (λ o. declares_prefix prefix o.decls || content_declares_prefix prefix o.content) operations
 
@@ -77,7 +77,7 @@ operations prefix ns = map (operation prefix) ns
 abbrev pub prefix_for : List Note → List ℕ
 prefix_for ns =
     candidate_prefix
-    (first_free_candidate (is_prefix_taken (operations [] ns))
+    (first_free_candidate (is_prefix_declared (operations [] ns))
     (count_declarations (operations [] ns)) 0)
 
 -- ---- `document` elements and the whole diff document

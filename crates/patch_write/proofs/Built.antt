@@ -6,7 +6,8 @@ use Rattle.xml_names.specs.ExpandedNames.{name_from_parts as in_diff}
 use Rattle.edit_ops.specs.Notes.{Note, tag_after}
 use Rattle.edit_ops.specs.DiffOperations.{plain_attr as plain}
 use Rattle.patch_rules.specs.Notices.{aggregate_documents, diff, diff_uri, document, operations, prefix_for, tags_documents}
-use Rattle.patch_rules.specs.inner.AppendedElements.{has_no_notes, with_elements}
+use Rattle.edit_ops.specs.RecordParts.{has_no_notes}
+use Rattle.patch_rules.specs.inner.AppendedElements.{with_elements}
 use Rattle.patch_write.specs.Modes.{notice_of}
 use Rattle.patch_write.specs.inner.Modes.{mode_documents, reported_notes}
 use Rattle.xcap_uri.specs.declared.target.Mode.{Mode}

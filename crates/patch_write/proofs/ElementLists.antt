@@ -7,7 +7,6 @@ use Rattle.xml_names.specs.declared.names.Name.{Name}
 use Rattle.xml_names.specs.declared.names.Decl.{Decl}
 use Rattle.xml_names.specs.declared.names.Attr.{Attr}
 use Rattle.edit_ops.specs.Notes.{Note, tag_after}
-use Rattle.edit_ops.specs.RecordParts.{all_notes as joined}
 use Rattle.patch_rules.specs.inner.AppendedElements.{with_elements}
 
 pub all-append : (xs ys : List Tree) (t : Tree) → with_elements (xs ++ ys) t ≡ with_elements ys (with_elements xs t)
@@ -40,8 +39,8 @@ module _ (tell : Note → Tree) where
       put ∙ ap (λ (x : Tree). record x { content = with_elem (tell d) x.content }) before
       ∙ sym (all-append (map tell (take i ns)) (tell d ∷ []) t) ∙ ap (λ (l : List Tree). with_elements l t) (sym told)
 
--- the tag after the records of both slices
-pub tag-joined : (tag : ℕ) (older newer : List Note) → tag_after (tag_after tag older) newer ≡ tag_after tag (joined older newer)
+-- the tag after the records of both pieces
+pub tag-joined : (tag : ℕ) (older newer : List Note) → tag_after (tag_after tag older) newer ≡ tag_after tag (older ++ newer)
 tag-joined tag [] newer = refl
 tag-joined tag (n ∷ older) newer = tag-joined n.next older newer
 
@@ -55,9 +54,9 @@ last-tag from (x ∷ y ∷ ns) n h =
     let e : length (x ∷ y ∷ ns) - 1 ≡ suc (length (y ∷ ns) - 1) = omega arith in
     last-tag x.next (y ∷ ns) n (subst (λ (k : ℕ). slice_get (x ∷ y ∷ ns) k ≡ Some n) e h)
 
--- all operations, added from two slices
+-- all operations, added from two pieces
 pub two-put : (tell : Note → Tree) (n : Name) (ds : List Decl) (ats : List Attr) (older newer : List Note) (first some all : Tree) → first ≡ tree_of n ds ats (last [])
-    → some ≡ with_elements (map tell older) first → all ≡ with_elements (map tell newer) some → all ≡ tree_of n ds ats (listed (map tell (joined older newer)))
+    → some ≡ with_elements (map tell older) first → all ≡ with_elements (map tell newer) some → all ≡ tree_of n ds ats (listed (map tell (older ++ newer)))
 two-put tell n ds ats older newer first some all made then next =
     next ∙ ap (with_elements (map tell newer)) (then ∙ ap (with_elements (map tell older)) made)
     ∙ sym (all-append (map tell older) (map tell newer) (tree_of n ds ats (last [])))
@@ -66,7 +65,7 @@ two-put tell n ds ats older newer first some all made then next =
 
 -- all operations, added after other elements
 pub two-behind : (tell : Note → Tree) (older newer : List Note) (t some all : Tree) → some ≡ with_elements (map tell older) t → all ≡ with_elements (map tell newer) some
-    → all ≡ with_elements (map tell (joined older newer)) t
+    → all ≡ with_elements (map tell (older ++ newer)) t
 two-behind tell older newer t some all then next =
     next ∙ ap (with_elements (map tell newer)) then ∙ sym (all-append (map tell older) (map tell newer) t)
     ∙ ap (λ (l : List Tree). with_elements l t) (sym (map-append tell older newer))

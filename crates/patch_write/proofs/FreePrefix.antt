@@ -4,7 +4,6 @@ use Rattle.std.specs.Set.{is_member}
 use Rattle.xml_names.specs.declared.names.Decl.{Decl}
 use Rattle.edit_ops.specs.declared.change.Change.{Change}
 use Rattle.edit_ops.specs.declared.change.Change.TheVariants.{CreateDocument, Insert, Replace, Remove, SetAttr, DropAttr, RemoveDocument}
-use Rattle.edit_ops.specs.RecordParts.{all_notes as joined}
 use Rattle.edit_ops.specs.Notes.{Note}
 use Rattle.edit_ops.specs.DiffOperations.{change_operation as told}
 use Rattle.patch_rules.specs.inner.DeclaredPrefixes.{declared_prefixes, content_prefixes}
@@ -62,8 +61,8 @@ notes_prefixes [] = refl
 notes_prefixes (n ∷ ns) = λ i. told_prefixes n.bindings n.fresh n.change i ++ notes_prefixes ns i
 
 pub prefix-listed : (older newer : List Note)
-    → candidate_prefix (first_free_candidate (is_member bytes_eq (flat_map record_prefixes (older ++ newer))) (length (flat_map record_prefixes (older ++ newer))) 0) ≡ prefix_for (joined older newer)
+    → candidate_prefix (first_free_candidate (is_member bytes_eq (flat_map record_prefixes (older ++ newer))) (length (flat_map record_prefixes (older ++ newer))) 0) ≡ prefix_for (older ++ newer)
 prefix-listed older newer =
-    let os = operations [] (joined older newer) in
+    let os = operations [] (older ++ newer) in
     ap (λ ps. candidate_prefix (first_free_candidate (is_member bytes_eq ps) (length ps) 0)) (sym (notes_prefixes (older ++ newer)))
     ∙ (λ i. candidate_prefix (first_free_candidate (λ p. sym (taken_whole os p) i) (length-whole os i) 0))

@@ -8,7 +8,7 @@ ghost use Rattle.xml_tree.specs.Print.{document_print};
 ghost use Rattle.xml_tree.specs.Tree.{last, tree_of};
 ghost use Rattle.edit_ops.specs.Notes.{tag_after};
 ghost use Rattle.edit_ops.specs.DiffOperations.{operation, plain_attr, sel_attr};
-ghost use Rattle.edit_ops.specs.RecordParts.{all_notes};
+ghost use Rattle.edit_ops.specs.RecordParts.{has_no_notes};
 ghost use Rattle.patch_rules.specs.Notices.{aggregate_documents, candidate_prefix, diff, document};
 ghost use Rattle.patch_rules.specs.Notices.{gone_notice};
 ghost use Rattle.patch_rules.specs.Notices.{patching_documents, operations, prefix_for};
@@ -16,7 +16,7 @@ ghost use Rattle.patch_rules.specs.Notices.{removed_document};
 ghost use Rattle.patch_rules.specs.Notices.{tags_documents};
 ghost use Rattle.patch_write.specs.Modes.{notice_of};
 ghost use Rattle.patch_write.specs.inner.Modes.{mode_documents, reported_notes};
-ghost use Rattle.patch_rules.specs.inner.AppendedElements.{has_no_notes, with_elements};
+ghost use Rattle.patch_rules.specs.inner.AppendedElements.{with_elements};
 
 use crate::operations::operation;
 use crate::prefixes::prefix_for;
@@ -164,15 +164,16 @@ fn document_of_records(
     names: &Names,
     from: u64,
     to: u64,
-    notes: Notes<'_>,
+    notes: &Notes<'_>,
 ) -> Result<Element, AllocError>
     ensures ok { IfOk result
         (λ made. made ≡ document names.now.prefix names.now.sel from to
-        (operations names.now.prefix (all_notes notes.entry.older.now notes.entry.newer.now))) }
+        (operations names.now.prefix notes.now)) }
 {
+    let (older, newer) = notes.pieces();
     let mut made = unpatched_document(alloc, names, from, to)?;
-    push_operations(alloc, &mut made, &names.prefix, notes.older)?;
-    push_operations(alloc, &mut made, &names.prefix, notes.newer)?;
+    push_operations(alloc, &mut made, &names.prefix, older)?;
+    push_operations(alloc, &mut made, &names.prefix, newer)?;
     Ok(made)
 }
 
@@ -195,19 +196,12 @@ fn push_record_documents(
 
 // ---- the whole diff document
 
-// Whether there are no change records.
-fn has_no_records(notes: Notes<'_>) -> bool
-    ensures exact { result ≡ has_no_notes (all_notes notes.entry.older.now notes.entry.newer.now) }
-{
-    notes.older.is_empty() && notes.newer.is_empty()
-}
-
 // The tag after all change records.
-fn last_tag_of_notes(from: u64, notes: Notes<'_>) -> u64
-    ensures exact { result
-        ≡ tag_after from (all_notes notes.entry.older.now notes.entry.newer.now) }
+fn last_tag_of_notes(from: u64, notes: &Notes<'_>) -> u64
+    ensures exact { result ≡ tag_after from notes.now }
 {
-    last_tag(last_tag(from, notes.older), notes.newer)
+    let (older, newer) = notes.pieces();
+    last_tag(last_tag(from, older), newer)
 }
 
 // Adds the `document` element with etags alone.
@@ -216,13 +210,12 @@ fn push_tags_document(
     notice: &mut Element,
     names: &Names,
     from: u64,
-    notes: Notes<'_>,
+    notes: &Notes<'_>,
 ) -> Result<(), AllocError>
-    requires { has_no_notes (all_notes notes.older.now notes.newer.now) ≡ false }
+    requires { has_no_notes notes.now ≡ false }
     ensures ok { OnOk result
         (notice.new ≡ with_elements
-        (tags_documents names.now.prefix names.now.sel from
-        (all_notes notes.entry.older.now notes.entry.newer.now)) notice.old) }
+        (tags_documents names.now.prefix names.now.sel from notes.now) notice.old) }
 {
     let to = last_tag_of_notes(from, notes);
     let made = unpatched_document(alloc, names, from, to)?;
@@ -230,20 +223,20 @@ fn push_tags_document(
     Ok(())
 }
 
-// Adds a `document` element for each change record of both slices.
+// Adds a `document` element for each change record.
 fn push_patching_documents(
     alloc: Global,
     notice: &mut Element,
     names: &Names,
-    notes: Notes<'_>,
+    notes: &Notes<'_>,
 ) -> Result<(), AllocError>
     ensures ok { OnOk result
         (notice.new ≡ with_elements
-        (patching_documents names.now.prefix names.now.sel
-        (all_notes notes.entry.older.now notes.entry.newer.now)) notice.old) }
+        (patching_documents names.now.prefix names.now.sel notes.now) notice.old) }
 {
-    push_record_documents(alloc, notice, names, notes.older)?;
-    push_record_documents(alloc, notice, names, notes.newer)?;
+    let (older, newer) = notes.pieces();
+    push_record_documents(alloc, notice, names, older)?;
+    push_record_documents(alloc, notice, names, newer)?;
     Ok(())
 }
 
@@ -253,13 +246,12 @@ fn push_aggregate_document(
     notice: &mut Element,
     names: &Names,
     from: u64,
-    notes: Notes<'_>,
+    notes: &Notes<'_>,
 ) -> Result<(), AllocError>
-    requires { has_no_notes (all_notes notes.older.now notes.newer.now) ≡ false }
+    requires { has_no_notes notes.now ≡ false }
     ensures ok { OnOk result
         (notice.new ≡ with_elements
-        (aggregate_documents names.now.prefix names.now.sel from
-        (all_notes notes.entry.older.now notes.entry.newer.now)) notice.old) }
+        (aggregate_documents names.now.prefix names.now.sel from notes.now) notice.old) }
 {
     let to = last_tag_of_notes(from, notes);
     let made = document_of_records(alloc, names, from, to, notes)?;
@@ -274,14 +266,13 @@ fn push_documents(
     names: &Names,
     mode: Mode,
     from: u64,
-    notes: Notes<'_>,
+    notes: &Notes<'_>,
 ) -> Result<(), AllocError>
     ensures ok { OnOk result
         (notice.new ≡ with_elements
-        (mode_documents mode names.now.prefix names.now.sel from
-        (all_notes notes.entry.older.now notes.entry.newer.now)) notice.old) }
+        (mode_documents mode names.now.prefix names.now.sel from notes.now) notice.old) }
 {
-    if has_no_records(notes) {
+    if notes.is_empty() {
         return Ok(());
     }
     match mode {
@@ -291,29 +282,25 @@ fn push_documents(
     }
 }
 
-// The change records whose operations a diff document in this mode has.
-fn sent_records(mode: Mode, notes: Notes<'_>) -> Notes<'_>
-    ensures mode_records { all_notes result.older.now result.newer.now
-        ≡ reported_notes mode (all_notes notes.entry.older.now notes.entry.newer.now) }
+// The prefix of the diff document of these change records in this mode.
+fn prefix_in_mode(alloc: Global, mode: Mode, notes: &Notes<'_>) -> Result<Prefix, AllocError>
+    ensures mode_prefix { IfOk result
+        (λ prefix. prefix ≡ prefix_for (reported_notes mode notes.now)) }
 {
     match mode {
-        Mode::NoPatching => Notes {
-            older: &[],
-            newer: &[],
-        },
-        Mode::XcapPatching => notes,
-        Mode::Aggregate => notes,
+        Mode::NoPatching => prefix_for(alloc, &Notes::none()),
+        Mode::XcapPatching => prefix_for(alloc, notes),
+        Mode::Aggregate => prefix_for(alloc, notes),
     }
 }
 
-// The names in the diff document of these change records.
-fn names_for(alloc: Global, doc: &DocId, notes: Notes<'_>) -> Result<Names, AllocError>
+// The names in the diff document of these change records in this mode.
+fn names_for(alloc: Global, mode: Mode, doc: &DocId, notes: &Notes<'_>) -> Result<Names, AllocError>
     ensures records_prefix { IfOk result
-        (λ names. names.prefix
-        ≡ prefix_for (all_notes notes.entry.older.now notes.entry.newer.now)) }
+        (λ names. names.prefix ≡ prefix_for (reported_notes mode notes.now)) }
     ensures prints_name { IfOk result (λ names. names.sel ≡ id_text doc.now) }
 {
-    let prefix = prefix_for(alloc, notes)?;
+    let prefix = prefix_in_mode(alloc, mode, notes)?;
     let sel = print_doc_id(alloc, doc)?;
     Ok(Names { prefix, sel })
 }
@@ -325,12 +312,11 @@ fn notice_tree(
     mode: Mode,
     root: &Root,
     from: u64,
-    notes: Notes<'_>,
+    notes: &Notes<'_>,
 ) -> Result<Element, AllocError>
     ensures ok { IfOk result
         (λ made. made ≡ with_elements
-        (mode_documents mode names.now.prefix names.now.sel from
-        (all_notes notes.entry.older.now notes.entry.newer.now))
+        (mode_documents mode names.now.prefix names.now.sel from notes.now)
         (diff names.now.prefix root.now [])) }
 {
     let mut notice = empty_notice(alloc, &names.prefix, root.text())?;
@@ -351,14 +337,13 @@ pub fn notice(
     root: &Root,
     doc: &DocId,
     from: u64,
-    notes: Notes<'_>,
+    notes: &Notes<'_>,
 ) -> Result<Bytes, AllocError>
     ensures ok { IfOk result
         (λ bytes. bytes ≡ encode_utf8_all
-        (document_print (notice_of mode root.now (id_text doc.now) from
-        (all_notes notes.entry.older.now notes.entry.newer.now)))) }
+        (document_print (notice_of mode root.now (id_text doc.now) from notes.now))) }
 {
-    let names = names_for(alloc, doc, sent_records(mode, notes))?;
+    let names = names_for(alloc, mode, doc, notes)?;
     let notice = notice_tree(alloc, &names, mode, root, from, notes)?;
     print_document(alloc, &notice)
 }

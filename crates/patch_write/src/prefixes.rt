@@ -1,7 +1,6 @@
 //! The prefix of a diff document: `d`, or the first of `d1`, `d2` and so on that nothing in its
 //! operations declares.
 ghost use Rattle.std.specs.Prelude.{◌≡◌, ℕ, List, ◌++◌, IfOk, OnOk, flat_map, length};
-ghost use Rattle.edit_ops.specs.RecordParts.{all_notes};
 ghost use Rattle.std.specs.Set.{is_member};
 ghost use Rattle.std.specs.Str.{bytes_eq};
 ghost use Rattle.patch_rules.specs.Notices.{candidate_prefix, first_free_candidate, prefix_for};
@@ -125,12 +124,13 @@ fn first_free_candidate(alloc: Global, seen: &BTreeSet<Prefix>) -> Result<Prefix
 }
 
 // The prefix of a diff document with the operations of these change records.
-pub(crate) fn prefix_for(alloc: Global, notes: Notes<'_>) -> Result<Prefix, AllocError>
+pub(crate) fn prefix_for(alloc: Global, notes: &Notes<'_>) -> Result<Prefix, AllocError>
     ensures records_prefix { IfOk result
-        (λ prefix. prefix ≡ prefix_for (all_notes notes.entry.older.now notes.entry.newer.now)) }
+        (λ prefix. prefix ≡ prefix_for notes.now) }
 {
+    let (older, newer) = notes.pieces();
     let mut seen = BTreeSet::new(alloc);
-    add_notes(alloc, &mut seen, notes.older)?;
-    add_notes(alloc, &mut seen, notes.newer)?;
+    add_notes(alloc, &mut seen, older)?;
+    add_notes(alloc, &mut seen, newer)?;
     first_free_candidate(alloc, &seen)
 }

@@ -5,8 +5,7 @@ use crate::sockets::{Readiness, Sockets};
 use mio::event::Event;
 use mio::net::{TcpListener, TcpStream};
 use mio::{Events, Interest, Poll, Token};
-use std::alloc::Global;
-use std::io;
+use std::alloc::{AllocError, Global};
 use std::io::ErrorKind;
 use std::net::{Net, Shutdown, ToSocketAddrs};
 use std::time::{Clock, Duration, Instant};
@@ -22,7 +21,8 @@ const MAX_FOUND: usize = 256;
 #[derive(Drop)]
 pub struct MioSockets<N: Net + Clock + Drop> {
     net: N,
-    poll: Poll,
+    // none before it listens
+    poll: Option<Poll>,
     events: Events,
     found: Vec<Readiness>,
     listener: Option<TcpListener>,
@@ -32,14 +32,13 @@ impl<N: Net + Clock + Drop> MioSockets<N> {
     /// Sockets that don't listen yet.
     ///
     /// # Errors
-    /// When the system has no descriptor left, or no memory.
-    pub fn new(alloc: Global, net: N) -> io::Result<MioSockets<N>> {
-        let poll = Poll::new(&net)?;
+    /// When out of memory.
+    pub fn new(alloc: Global, net: N) -> Result<MioSockets<N>, AllocError> {
         Ok(MioSockets {
             events: Events::with_capacity(alloc, MAX_FOUND)?,
             found: Vec::with_capacity(alloc, MAX_FOUND)?,
             net,
-            poll,
+            poll: None,
             listener: None,
         })
     }
@@ -95,7 +94,13 @@ impl<N: Net + Clock + Drop> Sockets for MioSockets<N> {
         let Some(mut listener) = bind_first(&self.net, address) else {
             return Err(Failed);
         };
-        let registry = self.poll.registry();
+        if self.poll.is_none() {
+            self.poll = Poll::new(&self.net).ok();
+        }
+        let Some(poll) = &self.poll else {
+            return Err(Failed);
+        };
+        let registry = poll.registry();
         match registry.register(&mut listener, LISTENER, Interest::READABLE) {
             Ok(()) => {
                 self.listener = Some(listener);
@@ -106,7 +111,10 @@ impl<N: Net + Clock + Drop> Sockets for MioSockets<N> {
     }
 
     fn poll(&mut self, longest: Duration) -> Result<(), Failed> {
-        match self.poll.poll(&mut self.events, Some(longest)) {
+        let Some(poll) = &mut self.poll else {
+            return Err(Failed);
+        };
+        match poll.poll(&mut self.events, Some(longest)) {
             Ok(()) => {
                 record_events(&mut self.found, &self.events);
                 Ok(())
@@ -120,7 +128,7 @@ impl<N: Net + Clock + Drop> Sockets for MioSockets<N> {
     }
 
     fn accept(&mut self, place: usize) -> Result<Option<TcpStream>, Failed> {
-        let Some(listener) = &self.listener else {
+        let (Some(listener), Some(poll)) = (&self.listener, &self.poll) else {
             return Ok(None);
         };
         match listener.accept() {
@@ -128,7 +136,7 @@ impl<N: Net + Clock + Drop> Sockets for MioSockets<N> {
                 // Writes are few and large, so they are sent without Nagle's delay. A socket that
                 // can't do so works all the same.
                 let _ = stream.set_nodelay(true);
-                register(&self.poll, &mut stream, place)?;
+                register(poll, &mut stream, place)?;
                 Ok(Some(stream))
             }
             Err(fault) => match fault.kind() {

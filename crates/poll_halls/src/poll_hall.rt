@@ -26,9 +26,14 @@ const LONGEST_POLL: u64 = 1000;
 /// How many, where a connection was deferred or lingers.
 const DEFERRED_POLL: u64 = 20;
 
+/// How many connections that come are reported between two polls at most: more than one, so that
+/// where thousands come a second the last of them needn't wait for long.
+const MAX_KNOCKS: usize = 16;
+
 /// Connections over sockets that are open at once. The connections are reported in rounds. After
-/// each round at most one that comes and one that is late are reported, or there is a poll: so
-/// neither many ready connections nor many that come keep the others waiting.
+/// each round one that comes or one that is late is reported, or there is a poll, at the latest
+/// after `MAX_KNOCKS` that come: so neither many ready connections nor many that come keep the
+/// others waiting.
 #[derive(Drop)]
 pub struct PollHall<E: Sockets + Drop> {
     sockets: E,
@@ -39,10 +44,10 @@ pub struct PollHall<E: Sockets + Drop> {
     times: Times,
     // where the round goes on
     from: usize,
-    // whether a connection may be there to be accepted, and whether there was a poll since the
-    // last report of one
+    // whether a connection may be there to be accepted, and how many more may be reported before
+    // the next poll
     knocks: bool,
-    polled: bool,
+    knocks_left: usize,
     // whether no connection can be accepted before another is closed
     is_full: bool,
     begun: u64,
@@ -192,7 +197,7 @@ impl<E: Sockets + Drop> PollHall<E> {
             times: Times { now, limits },
             from: 0,
             knocks: true,
-            polled: false,
+            knocks_left: 0,
             is_full: false,
             begun: 0,
             log: HallLog::new(),
@@ -217,7 +222,7 @@ impl<E: Sockets + Drop> PollHall<E> {
         ensures same_count { self.new.begun ≡ self.old.begun }
     {
         let longest = self.longest_poll(takes_more);
-        self.polled = true;
+        self.knocks_left = MAX_KNOCKS;
         self.sockets.poll(longest)?;
         self.times.now = self.sockets.now();
         self.lingering.drain(&self.times);
@@ -252,8 +257,8 @@ impl<E: Sockets + Drop> PollHall<E> {
             return Ok(Event::Ready(id));
         }
         self.from = 0;
-        if takes_more && self.knocks && self.polled {
-            self.polled = false;
+        if takes_more && self.knocks && self.knocks_left > 0 {
+            self.knocks_left -= 1;
             return Ok(Event::Knock);
         }
         if let Some(id) = self.next_late(takes_more) {

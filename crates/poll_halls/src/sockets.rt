@@ -19,7 +19,7 @@ pub trait Sockets {
     /// Starts to listen at this address, in place of any other.
     fn listen(&mut self, address: &str) -> Result<(), Failed>;
 
-    /// Waits until something is ready, but no longer than this.
+    /// Waits until something is ready, but no longer than this. Fails where they don't listen.
     fn poll(&mut self, longest: Duration) -> Result<(), Failed>;
 
     /// What the last poll found.

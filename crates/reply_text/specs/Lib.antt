@@ -1,2 +1,3 @@
+pub mod MediaTypes
 pub mod ReplyHeads
 pub mod Statuses

@@ -5,10 +5,7 @@ use Rattle.std.specs.Prelude.{ℕ, ◌==◌, Bool, List, [], ◌++◌, Option, c
 use Rattle.std.specs.Prelude.{if◌then◌else◌}
 use Rattle.std.specs.Option.{option_map_or}
 use Rattle.reply_text.specs.declared.media_types.MediaType.{MediaType}
-use Rattle.reply_text.specs.declared.media_types.MediaType.TheVariants.{ResourceLists, RlsServices}
-use Rattle.reply_text.specs.declared.media_types.MediaType.TheVariants.{XcapCaps, Element}
-use Rattle.reply_text.specs.declared.media_types.MediaType.TheVariants.{Attribute, Namespaces}
-use Rattle.reply_text.specs.declared.media_types.MediaType.TheVariants.{Error, Diff}
+use Rattle.reply_text.specs.MediaTypes.{media_type}
 use Rattle.reply_text.specs.Statuses.{reason}
 
 -- CR LF
@@ -28,18 +25,6 @@ unfoldable pub allow_line : Bool → List ℕ
 allow_line read_only =
     codes "Allow: " ++ (if read_only then codes "GET, HEAD" else codes "GET, HEAD, PUT, DELETE")
     ++ line_end
-
--- the names of the media types (RFC 4825, section 15.2; RFC 4826, section 8.2; RFC 5874, section
--- 7.1)
-unfoldable pub media_type : MediaType → List ℕ
-media_type ResourceLists = codes "application/resource-lists+xml"
-media_type RlsServices = codes "application/rls-services+xml"
-media_type XcapCaps = codes "application/xcap-caps+xml"
-media_type Element = codes "application/xcap-el+xml"
-media_type Attribute = codes "application/xcap-att+xml"
-media_type Namespaces = codes "application/xcap-ns+xml"
-media_type Error = codes "application/xcap-error+xml"
-media_type Diff = codes "application/xcap-diff+xml"
 
 unfoldable pub media_line : MediaType → List ℕ
 media_line media = codes "Content-Type: " ++ media_type media ++ line_end

@@ -4,7 +4,7 @@ use Rattle.std.specs.Option.{option_map_or}
 use Rattle.http_wire.specs.declared.request.Field.{Field}
 use Rattle.http_wire.specs.declared.request.Request.{Request}
 use Rattle.request_checks.specs.Fields.{IsConditionsReading, Missing, Preconditions, HaveFieldValues}
-use Rattle.request_checks.specs.Verdicts.{verdict_of}
+use Rattle.request_checks.specs.Verdicts.{precondition_verdict}
 use Rattle.request_checks.proofs.Values.{one_conditions, some_conditions}
 use Rattle.reply_text.specs.ReplyHeads.{SentReply}
 use Rattle.request_checks.specs.Conditions.{HasOutcome, IsConditionReply, outcome_of_verdict, outcome_reply}
@@ -14,13 +14,13 @@ use Rattle.request_checks.specs.declared.conditions.Outcome.TheVariants.{Go, Unr
 
 -- the outcome of conditions, if they can be read
 abbrev by_conditions : Option Preconditions → Option ℕ → Bool → Bool → Outcome
-by_conditions said tag exists reading = option_map_or (λ conditions. outcome_of_verdict (verdict_of conditions tag exists reading)) said Unreadable
+by_conditions said tag exists reading = option_map_or (λ conditions. outcome_of_verdict (precondition_verdict conditions tag exists reading)) said Unreadable
 
 -- the outcome of the lines of the two fields
 abbrev pub LinesMake : List (List ℕ) → List (List ℕ) → Option ℕ → Bool → Bool → Outcome → Type 0
 LinesMake ms ns tag exists reading o = (said : Option Preconditions) × IsConditionsReading ms ns said × (o ≡ by_conditions said tag exists reading)
 
-pub read_outcome : (ms ns : List (List ℕ)) (conditions : Preconditions) (tag : Option ℕ) (exists reading : Bool) (o : Outcome) → HaveFieldValues ms ns conditions → o ≡ outcome_of_verdict (verdict_of conditions tag exists reading)
+pub read_outcome : (ms ns : List (List ℕ)) (conditions : Preconditions) (tag : Option ℕ) (exists reading : Bool) (o : Outcome) → HaveFieldValues ms ns conditions → o ≡ outcome_of_verdict (precondition_verdict conditions tag exists reading)
     → LinesMake ms ns tag exists reading o
 read_outcome ms ns conditions tag exists reading o said is = (Some conditions, said, is)
 

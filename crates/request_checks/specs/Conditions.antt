@@ -5,7 +5,7 @@ use Rattle.std.specs.Option.{option_map_or}
 use Rattle.http_wire.specs.declared.request.Field.{Field}
 use Rattle.http_wire.specs.declared.request.Request.{Request}
 use Rattle.request_checks.specs.Fields.{IsConditionsReading, Preconditions}
-use Rattle.request_checks.specs.Verdicts.{verdict_of}
+use Rattle.request_checks.specs.Verdicts.{precondition_verdict}
 use Rattle.request_checks.specs.declared.verdicts.Verdict.{Verdict}
 use Rattle.request_checks.specs.declared.verdicts.Verdict.TheVariants.{Go, Same, Failed}
 use Rattle.reply_text.specs.ReplyHeads.{SentReply, sent_reply, plain_reply}
@@ -27,7 +27,7 @@ HasOutcome fields tag exists reading outcome =
     (fields_named (codes "if-none-match") fields) said
     × (outcome
     ≡ option_map_or
-    (λ conditions. outcome_of_verdict (verdict_of conditions tag exists reading)) said
+    (λ conditions. outcome_of_verdict (precondition_verdict conditions tag exists reading)) said
     outcomes.Unreadable)
 
 -- the reply of an outcome: of a condition that can't be read, one that says that the client

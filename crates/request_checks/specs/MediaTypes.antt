@@ -3,7 +3,7 @@
 use Rattle.std.specs.Prelude.{ℕ, nat_eq, Bool, false, ◌&&◌, List, [], ◌∷◌, codes}
 use Rattle.std.specs.List.{list_all, slice_split}
 use Rattle.httparse.specs.Grammar.{trim_ows}
-use Rattle.reply_text.specs.ReplyHeads.{media_type}
+use Rattle.reply_text.specs.MediaTypes.{media_type}
 use Rattle.reply_text.specs.declared.media_types.MediaType.{MediaType}
 use Rattle.reply_text.specs.declared.media_types.MediaType.TheVariants as media
 use Rattle.doc_names.specs.declared.doc_id.Auid.{Auid}

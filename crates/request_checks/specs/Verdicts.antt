@@ -33,8 +33,8 @@ if_none_match_holds own exists (Tags tags) = not (list_any (matches_etag_weakly 
 
 -- `If-Match` is evaluated first; an `If-None-Match` that doesn't hold means 304 for a reading
 -- request
-abbrev pub verdict_of : Preconditions → Option ℕ → Bool → Bool → Verdict
-verdict_of c own exists reading =
+abbrev pub precondition_verdict : Preconditions → Option ℕ → Bool → Bool → Verdict
+precondition_verdict c own exists reading =
     if not (if_match_holds own exists c.if_match) then Failed
     else if if_none_match_holds own exists c.if_none_match then Go
     else if reading then Same else Failed

@@ -2,7 +2,7 @@
 ghost use Rattle.std.specs.Prelude.{◌≡◌, IfOk, Option};
 ghost use Rattle.std.specs.Option.{option_map_or};
 ghost use Rattle.request_checks.specs.Fields.{IsConditionsReading, Preconditions};
-ghost use Rattle.request_checks.specs.Verdicts.{verdict_of};
+ghost use Rattle.request_checks.specs.Verdicts.{precondition_verdict};
 ghost use Rattle.request_checks.specs.Conditions.{HasOutcome, outcome_of_verdict};
 ghost use Rattle.request_checks.specs.declared.conditions.Outcome.TheVariants.{Unreadable};
 
@@ -34,7 +34,7 @@ fn outcome_by_lines(
         (λ o. (said : Option Preconditions)
         × IsConditionsReading if_match.now if_none_match.now said
         × (o ≡ option_map_or
-        (λ conditions. outcome_of_verdict (verdict_of conditions tag exists reading)) said
+        (λ conditions. outcome_of_verdict (precondition_verdict conditions tag exists reading)) said
         Unreadable)) }
 {
     match read_conditions(alloc, if_match, if_none_match) {

@@ -5,7 +5,7 @@ ghost use Rattle.std.specs.Str.{bytes_eq};
 ghost use Rattle.request_checks.specs.inner.FieldViews.{field_value_view};
 ghost use Rattle.request_checks.specs.Verdicts.{matches_etag_weakly, matches_etag_strongly};
 ghost use Rattle.request_checks.specs.Verdicts.{if_match_holds};
-ghost use Rattle.request_checks.specs.Verdicts.{if_none_match_holds, verdict_of};
+ghost use Rattle.request_checks.specs.Verdicts.{if_none_match_holds, precondition_verdict};
 
 use crate::condition_fields::ConditionField;
 use crate::{Conditions, EntityTag};
@@ -82,7 +82,7 @@ fn if_none_match_holds(field: &ConditionField, own: Option<u64>, exists: bool) -
 /// stored, `exists` says whether the resource exists, and `reading` whether the method is GET or
 /// HEAD. Does not allocate.
 pub fn condition(conditions: &Conditions, tag: Option<u64>, exists: bool, reading: bool) -> Verdict
-    ensures exact { result ≡ verdict_of conditions.now tag exists reading }
+    ensures exact { result ≡ precondition_verdict conditions.now tag exists reading }
 {
     if !if_match_holds(&conditions.if_match, tag, exists) {
         return Verdict::Failed;

@@ -1,3 +1,4 @@
+pub mod KeptDocuments
 pub mod Numbers
 pub mod OneState
 pub mod Snapshots

@@ -20,7 +20,7 @@ use Rattle.xcap_machine.specs.Answers.{Answer, MadeChange}
 use Rattle.xcap_machine.specs.Machine.{ValidStep, answer_with_edit, change_from_edit}
 use Rattle.xcap_machine.proofs.Ways.{Way, changes, stays as changes_nothing, way_of}
 use Rattle.server_restarts.specs.StatesOfLogs.{AreToldBetween, LeadsToState, LeadsToStateOrNext}
-use Rattle.server_restarts.proofs.OneState.{one_state_led, raised}
+use Rattle.server_restarts.proofs.OneState.{next_led, raised}
 
 -- ---- the number of a change
 
@@ -93,9 +93,9 @@ module _ (root : List ℕ) where
   -- ---- after a restart
 
   pub not_lower : (m : State) (pending : Option Request) (found : Contents) → LeadsToStateOrNext root m pending found → (n : State) → LeadsToState root found n → m.next ≤ n.next
-  not_lower m None found leads n leads' = let e : m.next ≡ n.next = ap (λ (s : State). s.next) (one_state_led root found m n leads leads') in omega (arith, e)
-  not_lower m (Some request) found (inl leads) n leads' = let e : m.next ≡ n.next = ap (λ (s : State). s.next) (one_state_led root found m n leads leads') in omega (arith, e)
+  not_lower m None found leads n leads' = let e : m.next ≡ n.next = next_led root found m leads ∙ sym (next_led root found n leads') in omega (arith, e)
+  not_lower m (Some request) found (inl leads) n leads' = let e : m.next ≡ n.next = next_led root found m leads ∙ sym (next_led root found n leads') in omega (arith, e)
   not_lower m (Some request) found (inr (reply, next, edit, step, leads)) n leads' =
-      let e : next.next ≡ n.next = ap (λ (s : State). s.next) (one_state_led root found next n leads leads') in
+      let e : next.next ≡ n.next = next_led root found next leads ∙ sym (next_led root found n leads') in
       let up : next.next ≡ m.next + 1 = (number_of_step m next request reply edit step).1 in
       omega (arith, e, up)

@@ -1,4 +1,4 @@
--- The contents of a log lead to one state, whose next number is the log's.
+-- The contents of a log lead to one state under given limits, whose next number is the log's.
 use Rattle.std.proofs.Common.{◌≡◌, ℕ, ◌+◌, List, [], ◌∷◌, map, length, Option, Some, refl, sym, ap, subst, ◌∙◌, arith}
 use Rattle.std.specs.List.{AllByRecursion}
 use Rattle.std.proofs.lemmas.List.{length-map}
@@ -62,9 +62,25 @@ module _ (root : List ℕ) where
       let same = (one_step root m request reply reply' mid mid' (Some edit) (Some edit') step.1 step'.1).1 in
       one_way requests mid n n' more (subst (λ (s : State). Makes_all s requests n') (sym same) more')
 
-  pub one_state_led : (found : Contents) (m n : State) → LeadsToState root found m → LeadsToState root found n → m ≡ n
-  one_state_led found m n first second =
-      let origins = one_state root found.parts first.origin second.origin first.begins.parts_of_state second.begins.parts_of_state in
+  -- no change changes the limits
+  same_limits : (m : State) (id : DocId) (change : Change) (act : ChangeKind) → (state_after_by_kind m id change act).limits ≡ m.limits
+  same_limits m id change (Makes tree) = refl
+  same_limits m id change Edits = refl
+  same_limits m id change Removes = refl
+
+  limits_stay : (requests : List Request) (m n : State) → Makes_all m requests n → n.limits ≡ m.limits
+  limits_stay [] m n is = ap (λ (s : State). s.limits) is
+  limits_stay (request ∷ requests) m n (reply, mid, edit, step, more) =
+      let made = change_from_edit edit in
+      let first : mid.limits ≡ m.limits = ap (λ (s : State). s.limits) step.1.goes_on ∙ same_limits m made.0 made.1.change (change_kind made.1.change) in
+      limits_stay requests mid n more ∙ first
+
+  origins_alike : (found : Contents) (m n : State) (first : LeadsToState root found m) (second : LeadsToState root found n) → m.limits ≡ n.limits → first.origin.limits ≡ second.origin.limits
+  origins_alike found m n first second limits = sym (limits_stay first.requests first.origin m first.made) ∙ limits ∙ limits_stay second.requests second.origin n second.made
+
+  pub one_state_led : (found : Contents) (m n : State) → m.limits ≡ n.limits → LeadsToState root found m → LeadsToState root found n → m ≡ n
+  one_state_led found m n limits first second =
+      let origins = one_state root found.parts first.origin second.origin (origins_alike found m n first second limits) first.begins.parts_of_state second.begins.parts_of_state in
       let requests = same_requests first.requests second.requests first.told second.told (sym first.changes ∙ second.changes) in
       one_way second.requests second.origin m n
       (subst (λ (s : State). Makes_all s second.requests m) origins (subst (λ (rs : List Request). Makes_all first.origin rs m) requests first.made)) second.made

@@ -4,16 +4,22 @@ use Rattle.std.specs.List.{AllByRecursion, flat_map}
 use Rattle.std.proofs.lemmas.List.{length-map}
 use Rattle.std.proofs.lemmas.List.Folds.{flat_map-map}
 use Rattle.change_log.specs.LogContents.{snapshot_of}
+use Rattle.doc_names.specs.NameEquality.{same_home}
 use Rattle.doc_names.specs.declared.doc_id.DocId.{DocId}
+use Rattle.doc_names.specs.declared.doc_id.Home.{Home}
 use Rattle.usage_docs.specs.Services.{document_len}
 use Rattle.state_snapshots.specs.Names.{IsEncodableName}
 use Rattle.state_snapshots.specs.Snapshots.{document_without_earlier, snapshot_parts, without_earlier}
 use Rattle.state_snapshots.proofs.States.{state_kept}
 use Rattle.store_core.specs.State.{Document, State, Version, versions}
-use Rattle.store_core.specs.ValidStates.{AreDistinct, IsValidHistory, IsValidState, document_addresses}
-use Rattle.store_core.proofs.AcceptedChanges.{length_of, sum-mapped, uris_of}
+use Rattle.store_core.specs.HomeLimits.{IsWithin, documents_of_home}
+use Rattle.store_core.specs.ValidStates.{AreDistinct, AreHomesWithinLimits, IsValidHistory, IsValidState, document_addresses}
+use Rattle.store_core.specs.declared.limits.Limits.{Limits}
+use Rattle.store_core.proofs.AcceptedChanges.{sum-mapped, uris_of}
 use Rattle.store_core.proofs.DistinctItems.{apart-cut, each-right}
 use Rattle.store_core.proofs.Entries.{mapped}
+use Rattle.store_core.proofs.HomeLemmas.{length_of}
+use Rattle.store_core.proofs.StateContents.{map-filtered}
 use Rattle.server_restarts.specs.StatesOfLogs.{LeadsToState}
 
 abbrev tags_of : Document → List ℕ
@@ -40,6 +46,22 @@ fewer_distinct (d ∷ ds) h = (
   fewer_distinct ds (apart-cut [] (earlier_tags d) (flat_map tags_of ds) h.1),
 )
 
+abbrev name_of : Document → DocId
+name_of d = d.id
+
+-- each home is within the limits as before
+homes_alone : (limits : Limits) (ds : List Document) → AreHomesWithinLimits limits ds → AreHomesWithinLimits limits (map document_without_earlier ds)
+homes_alone limits ds within home =
+    let own = documents_of_home name_of ds home in
+    let there : documents_of_home name_of (map document_without_earlier ds) home ≡ map document_without_earlier own =
+    sym (map-filtered document_without_earlier (λ (d : Document). same_home home d.id.home) (λ (d : Document). same_home home d.id.home) (λ d. refl) ds) in
+    let few : length own ≡ length (documents_of_home name_of (map document_without_earlier ds) home) = sym (length-map own document_without_earlier) ∙ sym (ap (λ (xs : List Document). length xs) there) in
+    let room : sum_by length_of own ≡ sum_by length_of (documents_of_home name_of (map document_without_earlier ds) home) = sym (sum-mapped length_of document_without_earlier own) ∙ sym (ap (λ (xs : List Document). sum_by length_of xs) there) in
+    record {
+      few = subst (λ (n : ℕ). IsWithin limits.home_documents n) few (within home).few;
+      room = subst (λ (n : ℕ). IsWithin limits.home_bytes n) room (within home).room;
+    }
+
 pub valid_alone : (m : State) → IsValidState m → IsValidState (without_earlier m)
 valid_alone m k =
     let ds = m.documents in
@@ -51,8 +73,10 @@ valid_alone m k =
       names = subst (λ (xs : List DocId). AreDistinct xs) (sym (mapped (λ (d : Document). d.id) document_without_earlier ds)) k.names;
       tags = fewer_distinct ds k.tags;
       services = subst (λ (xs : List (List ℕ)). AreDistinct xs) (sym (flat_map-map uris_of document_without_earlier ds)) k.services;
+      countable = k.countable;
       few = omega (arith, few, k.few);
       room = omega (arith, room, k.room);
+      homes = homes_alone m.limits ds k.homes;
     }
 
 pub snapshot_leads : (root : List ℕ) (m : State) → IsValidState m → m.next < 2 ^ 64 → AllByRecursion (λ d. IsEncodableName d.id) m.documents → LeadsToState root (snapshot_of (snapshot_parts root m) m.next) (without_earlier m)

@@ -1,1 +1,2 @@
+pub mod KeptDocuments
 pub mod StatesOfLogs

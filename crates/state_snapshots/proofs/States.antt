@@ -15,6 +15,7 @@ use Rattle.doc_names.specs.Usages.{usage_of}
 use Rattle.doc_names.specs.declared.usages.Usage.{Usage}
 use Rattle.doc_names.specs.declared.doc_id.DocId.{DocId}
 use Rattle.edit_ops.specs.Notes.{Note}
+use Rattle.store_core.specs.declared.limits.Limits.{Limits}
 use Rattle.store_core.specs.State.{Document, State, Version}
 use Rattle.store_core.specs.ValidStates.{IsValidHistory, IsSoundDocumentFor, IsValidState}
 use Rattle.state_snapshots.specs.Names.{IsEncodableName}
@@ -47,7 +48,7 @@ parts_kept next (d ∷ ds) fits kept writable = (part_kept next d fits kept.0 wr
 
 pub state_kept : (root : List ℕ) (m : State) → IsValidState m → m.next < 2 ^ 64 → AllByRecursion (λ d. IsEncodableName d.id) m.documents → AreOfState root (snapshot_parts root m) (without_earlier m)
 state_kept root m valid fits writable = (
-  start_back (start_of root m) (omega (arith, valid.few)) fits ∙ ap (λ (n : ℕ). Some (record { count = n; next = m.next; root = root })) (sym (length-map m.documents document_without_earlier)),
+  start_back (start_of root m) (omega (arith, valid.few, valid.countable.0)) fits ∙ ap (λ (n : ℕ). Some (record { count = n; next = m.next; root = root })) (sym (length-map m.documents document_without_earlier)),
   parts_kept m.next m.documents fits valid.documents writable,
 )
 
@@ -81,9 +82,10 @@ same_parts (part ∷ parts) (d ∷ ds) [] first second = absurd second
 same_parts (part ∷ parts) (d ∷ ds) (e ∷ es) first second =
     ap (λ (x : Document). x ∷ ds) (same_part part d e first.0 second.0) ∙ ap (λ (xs : List Document). e ∷ xs) (same_parts parts ds es first.1 second.1)
 
-pub one_state : (root : List ℕ) (parts : List (List ℕ)) (m n : State) → AreOfState root parts m → AreOfState root parts n → m ≡ n
-one_state root [] m n first second = absurd first
-one_state root (start ∷ parts) m n first second =
+pub one_state : (root : List ℕ) (parts : List (List ℕ)) (m n : State) → m.limits ≡ n.limits → AreOfState root parts m → AreOfState root parts n → m ≡ n
+one_state root [] m n limits first second = absurd first
+one_state root (start ∷ parts) m n limits first second =
     let started : start_of root m ≡ start_of root n = same_Some (start_of root m) (start_of root n) (sym first.0 ∙ second.0) in
-    ap (λ (ds : List Document). record { documents = ds; next = m.next }) (same_parts parts m.documents n.documents first.1 second.1)
-    ∙ ap (λ (k : ℕ). record { documents = n.documents; next = k }) (ap (λ (s : Start). s.next) started)
+    ap (λ (ds : List Document). record { documents = ds; next = m.next; limits = m.limits }) (same_parts parts m.documents n.documents first.1 second.1)
+    ∙ ap (λ (k : ℕ). record { documents = n.documents; next = k; limits = m.limits }) (ap (λ (s : Start). s.next) started)
+    ∙ ap (λ (l : Limits). record { documents = n.documents; next = n.next; limits = l }) limits

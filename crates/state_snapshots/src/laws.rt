@@ -20,11 +20,11 @@ pub fn parts_are_read_back()
 {}
 
 /// A law: the parts of a snapshot of a valid state are of that state without earlier versions, and
-/// of no other.
+/// of no other under the same limits, which a snapshot doesn't keep.
 pub fn snapshots_keep_states()
     ensures kept { (root : List ℕ) (m : State) → IsValidState m → m.next < 2 ^ 64
         → AllByRecursion (λ d. IsEncodableName d.id) m.documents
         → AreOfState root (snapshot_parts root m) (without_earlier m) }
     ensures one_state { (root : List ℕ) (parts : List (List ℕ)) (m n : State)
-        → AreOfState root parts m → AreOfState root parts n → m ≡ n }
+        → m.limits ≡ n.limits → AreOfState root parts m → AreOfState root parts n → m ≡ n }
 {}

@@ -51,8 +51,8 @@ nothing-first_taken_address others own h =
 pub no-more : (a b : ℕ) → b ≤ a → nat_lt a b ≡ false
 no-more a b h = grind (arith, nat_tests)
 
-pub not-yet : (n : ℕ) → n + 1 ≤ 1000 → (true && nat_le 1000 n) ≡ false
-not-yet n h = grind (arith, nat_tests)
+pub not-yet : (most n : ℕ) → n + 1 ≤ most → (true && nat_le most n) ≡ false
+not-yet most n h = grind (arith, nat_tests)
 
 pub not-told : (b : Bool) (r : StoreRefusal) → b ≡ false → refusal_if b r ≡ None
 not-told b r e = rw e refl

@@ -17,12 +17,13 @@ use Rattle.usage_docs.specs.declared.schema_table.Key.TheVariants.{Uri}
 use Rattle.doc_names.specs.NameEquality.{same_id}
 use Rattle.doc_names.specs.declared.doc_id.DocId.{DocId}
 use Rattle.edit_ops.specs.Notes.{Note}
+use Rattle.store_core.specs.declared.limits.Limits.{Limits}
 use Rattle.store_core.specs.declared.entry.Entry.{Entry}
 use Rattle.store_core.specs.declared.refusal.StoreRefusal.{StoreRefusal}
 use Rattle.store_core.specs.declared.refusal.StoreRefusal.TheVariants.{ServiceTaken, TooLarge, TooMany, StoreFull}
 use Rattle.store_core.specs.Contents.{StoredDocument, StoreContents as Content}
 use Rattle.store_core.specs.ValidStates.{AreDistinct, document_addresses}
-use Rattle.store_core.specs.DocumentChanges.{refusal_of_tree, refusal_or, find_document, stored_id, refusal_if, other_addresses, total_len_of_others, first_taken_address, without_document}
+use Rattle.store_core.specs.DocumentChanges.{refusal_in_store, refusal_or, find_document, stored_id, refusal_if, other_addresses, total_len_of_others, first_taken_address, without_document}
 use Rattle.store_core.specs.inner.StoreMemory.{IsConsistentStore, contents_view, stored_view, address_holder, is_held_by_other, entry_len, entry_number, registered_number, entry_addresses}
 use Rattle.store_core.specs.PreparedChanges.{total_len}
 use Rattle.store_core.proofs.AcceptedChanges.{sum-mapped, sum-put}
@@ -49,25 +50,25 @@ short : (n : ℕ) → nat_lt 262144 n ≡ false → min n 18446744073709551615 �
 short n h = grind (arith, nat_tests)
 
 -- a length that was capped at the greatest number gives the same test
-cut-step : (place : Option ℕ) (n : ℕ) (full : Bool) (others : ℕ) (b : Bool) → nat_lt 262144 n ≡ b
-    → refusal_from_checks place (min n 18446744073709551615) full others
+cut-step : (place : Option ℕ) (n : ℕ) (full : Bool) (others most : ℕ) (b : Bool) → nat_lt 262144 n ≡ b
+    → refusal_from_checks place (min n 18446744073709551615) full others most
     ≡ or_else (option_map (λ clash. ServiceTaken clash) (option_map (λ i. let clash : Clash = record { path = i ∷ []; key = Uri } in clash) place))
-    (or_else (refusal_if (nat_lt 262144 n) (TooLarge (min n 18446744073709551615))) (or_else (refusal_if full TooMany) (refusal_if (nat_lt 33554432 (others + n)) (StoreFull (others + n)))))
-cut-step (Some i) n full others b e = refl
-cut-step None n full others true e =
-    ap (λ t. or_else (refusal_if t (TooLarge (min n 18446744073709551615))) (or_else (refusal_if full TooMany) (refusal_if (nat_lt 33554432 (others + min n 18446744073709551615)) (StoreFull (others + min n 18446744073709551615))))) (long n n e)
-    ∙ sym (ap (λ t. or_else (refusal_if t (TooLarge (min n 18446744073709551615))) (or_else (refusal_if full TooMany) (refusal_if (nat_lt 33554432 (others + n)) (StoreFull (others + n))))) e)
-cut-step None n full others false e =
+    (or_else (refusal_if (nat_lt 262144 n) (TooLarge (min n 18446744073709551615))) (or_else (refusal_if full TooMany) (refusal_if (nat_lt most (others + n)) (StoreFull (others + n)))))
+cut-step (Some i) n full others most b e = refl
+cut-step None n full others most true e =
+    ap (λ t. or_else (refusal_if t (TooLarge (min n 18446744073709551615))) (or_else (refusal_if full TooMany) (refusal_if (nat_lt most (others + min n 18446744073709551615)) (StoreFull (others + min n 18446744073709551615))))) (long n n e)
+    ∙ sym (ap (λ t. or_else (refusal_if t (TooLarge (min n 18446744073709551615))) (or_else (refusal_if full TooMany) (refusal_if (nat_lt most (others + n)) (StoreFull (others + n))))) e)
+cut-step None n full others most false e =
     let s = short n e in
-    ap (λ (m : ℕ). or_else (refusal_if (nat_lt 262144 m) (TooLarge m)) (or_else (refusal_if full TooMany) (refusal_if (nat_lt 33554432 (others + m)) (StoreFull (others + m))))) s
-    ∙ sym (ap (λ (m : ℕ). or_else (refusal_if (nat_lt 262144 n) (TooLarge m)) (or_else (refusal_if full TooMany) (refusal_if (nat_lt 33554432 (others + n)) (StoreFull (others + n))))) s)
+    ap (λ (m : ℕ). or_else (refusal_if (nat_lt 262144 m) (TooLarge m)) (or_else (refusal_if full TooMany) (refusal_if (nat_lt most (others + m)) (StoreFull (others + m))))) s
+    ∙ sym (ap (λ (m : ℕ). or_else (refusal_if (nat_lt 262144 n) (TooLarge m)) (or_else (refusal_if full TooMany) (refusal_if (nat_lt most (others + n)) (StoreFull (others + n))))) s)
 
 -- ---- the tests of a tree
 
 -- where a registry says of each address whether another document has it
 found-so : (c : Content) (id : DocId) (is_new : Bool) (t : Tree) (test : List ℕ → Bool) (full : Bool) (others : ℕ) → ((uri : List ℕ) → is_member bytes_eq (other_addresses c id) uri ≡ test uri)
-    → full ≡ (is_new && nat_le 1000 (length c.documents)) → others ≡ total_len_of_others c id
-    → refusal_from_checks (position test (document_addresses id.auid t)) (min (document_len t) 18446744073709551615) full others ≡ refusal_of_tree c id is_new t
+    → full ≡ (is_new && nat_le c.limits.documents (length c.documents)) → others ≡ total_len_of_others c id
+    → refusal_from_checks (position test (document_addresses id.auid t)) (min (document_len t) 18446744073709551615) full others c.limits.bytes ≡ refusal_in_store c id is_new t
 found-so c id is_new t test full others tests fullness lengths =
     let own = document_addresses id.auid t in
     let clash : ℕ → Clash = λ i. record { path = i ∷ []; key = Uri } in
@@ -75,28 +76,28 @@ found-so c id is_new t test full others tests fullness lengths =
     let same : there ≡ test = λ i uri. tests uri i in
     let n = document_len t in
     let rest : Option Clash → Bool → ℕ → Option StoreRefusal = λ first f o. or_else (option_map (λ (x : Clash). ServiceTaken x) first)
-    (or_else (refusal_if (nat_lt 262144 n) (TooLarge (min n 18446744073709551615))) (or_else (refusal_if f TooMany) (refusal_if (nat_lt 33554432 (o + n)) (StoreFull (o + n))))) in
-    cut-step (position test own) n full others (nat_lt 262144 n) refl
+    (or_else (refusal_if (nat_lt 262144 n) (TooLarge (min n 18446744073709551615))) (or_else (refusal_if f TooMany) (refusal_if (nat_lt c.limits.bytes (o + n)) (StoreFull (o + n))))) in
+    cut-step (position test own) n full others c.limits.bytes (nat_lt 262144 n) refl
     ∙ ap (λ (p : List ℕ → Bool). rest (option_map clash (position p own)) full others) (sym same)
     ∙ ap (λ (f : Bool). rest (first_taken_address (other_addresses c id) own) f others) fullness
-    ∙ ap (λ (o : ℕ). rest (first_taken_address (other_addresses c id) own) (is_new && nat_le 1000 (length c.documents)) o) lengths
+    ∙ ap (λ (o : ℕ). rest (first_taken_address (other_addresses c id) own) (is_new && nat_le c.limits.documents (length c.documents)) o) lengths
 
 -- the other documents, by their entries
-abbrev others-of : List Row → DocId → List Row
+abbrev pub others-of : List Row → DocId → List Row
 others-of es id = filter (λ e. not (same_id id e.0)) es
 
-others-held : (es : List Row) (last : ℕ) (id : DocId) → without_document stored_id (contents_view es last).documents id ≡ map stored_view (others-of es id)
-others-held es last id = sym (map-filtered stored_view (λ (e : Row). not (same_id id e.0)) (λ (h : StoredDocument). not (same_id id h.id)) (λ e. refl) es)
+pub others-held : (es : List Row) (limits : Limits) (last : ℕ) (id : DocId) → without_document stored_id (contents_view es limits last).documents id ≡ map stored_view (others-of es id)
+others-held es limits last id = sym (map-filtered stored_view (λ (e : Row). not (same_id id e.0)) (λ (h : StoredDocument). not (same_id id h.id)) (λ e. refl) es)
 
-other-uris : (es : List Row) (last : ℕ) (id : DocId) → other_addresses (contents_view es last) id ≡ flat_map entry_addresses (others-of es id)
-other-uris es last id =
+other-uris : (es : List Row) (limits : Limits) (last : ℕ) (id : DocId) → other_addresses (contents_view es limits last) id ≡ flat_map entry_addresses (others-of es id)
+other-uris es limits last id =
     let uris : StoredDocument → List (List ℕ) = λ h. document_addresses h.id.auid h.tree in
-    ap (flat_map uris) (others-held es last id) ∙ flat_map-map uris stored_view (others-of es id)
+    ap (flat_map uris) (others-held es limits last id) ∙ flat_map-map uris stored_view (others-of es id)
 
-other-lens : (es : List Row) (last : ℕ) (id : DocId) → total_len_of_others (contents_view es last) id ≡ sum_by entry_len (others-of es id)
-other-lens es last id =
+other-lens : (es : List Row) (limits : Limits) (last : ℕ) (id : DocId) → total_len_of_others (contents_view es limits last) id ≡ sum_by entry_len (others-of es id)
+other-lens es limits last id =
     let len : StoredDocument → ℕ = λ h. document_len h.tree in
-    ap (sum_by len) (others-held es last id) ∙ sum-mapped len stored_view (others-of es id)
+    ap (sum_by len) (others-held es limits last id) ∙ sum-mapped len stored_view (others-of es id)
 
 -- ---- a new document
 
@@ -104,14 +105,14 @@ all-others : (es : List Row) → AllByRecursion (λ e. is_held_by_other None (So
 all-others [] = tt
 all-others (e ∷ es) = (refl, all-others es)
 
-pub against-new : (es : List Row) (rs : List (List ℕ × ℕ)) (last total : ℕ) (id : DocId) (t : Tree) → IsConsistentStore es rs last total → lookup (same_id id) es ≡ None
-    → refusal_from_checks (position (λ uri. is_held_by_other None (registered_number rs uri)) (document_addresses id.auid t)) (min (document_len t) 18446744073709551615) (nat_le 1000 (length es)) total ≡ refusal_of_tree (contents_view es last) id true t
-against-new es rs last total id t s missing =
+pub against-new : (es : List Row) (rs : List (List ℕ × ℕ)) (limits : Limits) (last total : ℕ) (id : DocId) (t : Tree) → IsConsistentStore es rs limits last total → lookup (same_id id) es ≡ None
+    → refusal_from_checks (position (λ uri. is_held_by_other None (registered_number rs uri)) (document_addresses id.auid t)) (min (document_len t) 18446744073709551615) (nat_le limits.documents (length es)) total limits.bytes ≡ refusal_in_store (contents_view es limits last) id true t
+against-new es rs limits last total id t s missing =
     let all : others-of es id ≡ es = none-filtered (λ (e : Row). same_id id e.0) es (none-found (same_id id) es missing) in
-    found-so (contents_view es last) id true t (λ uri. is_held_by_other None (registered_number rs uri)) (nat_le 1000 (length es)) total
-    (λ uri. ap (λ (us : List (List ℕ)). is_member bytes_eq us uri) (other-uris es last id ∙ ap (flat_map entry_addresses) all) ∙ sym (others-hold entry_addresses entry_number None es uri (all-others es)) ∙ ap (λ (o : Option ℕ). is_held_by_other None o) (sym (s.addresses uri)))
-    (ap (λ (n : ℕ). nat_le 1000 n) (sym (length-map es stored_view)))
-    (s.sum ∙ sym (other-lens es last id ∙ ap (sum_by entry_len) all))
+    found-so (contents_view es limits last) id true t (λ uri. is_held_by_other None (registered_number rs uri)) (nat_le limits.documents (length es)) total
+    (λ uri. ap (λ (us : List (List ℕ)). is_member bytes_eq us uri) (other-uris es limits last id ∙ ap (flat_map entry_addresses) all) ∙ sym (others-hold entry_addresses entry_number None es uri (all-others es)) ∙ ap (λ (o : Option ℕ). is_held_by_other None o) (sym (s.addresses uri)))
+    (ap (λ (n : ℕ). nat_le limits.documents n) (sym (length-map es stored_view)))
+    (s.sum ∙ sym (other-lens es limits last id ∙ ap (sum_by entry_len) all))
 
 -- ---- a stored document
 
@@ -130,20 +131,20 @@ others-round : (es : List Row) (id : DocId) (v : Entry) (r : Around es id v) →
 others-round es id v r = ap (λ (ds : List Row). others-of ds id) r.parts ∙ one-filtered (λ (e : Row). same_id id e.0) r.before r.behind (id, v) r.none-before r.passes r.none-behind
 
 -- the total without a document
-pub total-without : (es : List Row) (rs : List (List ℕ × ℕ)) (last total : ℕ) (id : DocId) (v : Entry) → IsConsistentStore es rs last total → lookup (same_id id) es ≡ Some v → total ≡ sum_by entry_len (others-of es id) + document_len v.tree.root
-total-without es rs last total id v s found =
-    let r = around-of es rs last total id v s found in
+pub total-without : (es : List Row) (rs : List (List ℕ × ℕ)) (limits : Limits) (last total : ℕ) (id : DocId) (v : Entry) → IsConsistentStore es rs limits last total → lookup (same_id id) es ≡ Some v → total ≡ sum_by entry_len (others-of es id) + document_len v.tree.root
+total-without es rs limits last total id v s found =
+    let r = around-of es rs limits last total id v s found in
     omega (arith, s.sum, ap (sum_by entry_len) r.parts, sum-put entry_len r.before (id, v) r.behind, ap (sum_by entry_len) (others-round es id v r))
 
-module _ (es : List Row) (rs : List (List ℕ × ℕ)) (last total : ℕ) (id : DocId) (v : Entry) (s : IsConsistentStore es rs last total) (found : lookup (same_id id) es ≡ Some v) where
+module _ (es : List Row) (rs : List (List ℕ × ℕ)) (limits : Limits) (last total : ℕ) (id : DocId) (v : Entry) (s : IsConsistentStore es rs limits last total) (found : lookup (same_id id) es ≡ Some v) where
   abbrev is-first_taken_address : List ℕ → Bool
   is-first_taken_address uri = is_held_by_other (Some v.created) (registered_number rs uri)
 
   abbrev round : Around es id v
-  round = around-of es rs last total id v s found
+  round = around-of es rs limits last total id v s found
 
   apart-round : AreDistinct (flat_map entry_addresses (round.before ++ (id, v) ∷ round.behind))
-  apart-round = subst (λ (ds : List Row). AreDistinct (flat_map entry_addresses ds)) round.parts (known-of es rs last total s).services
+  apart-round = subst (λ (ds : List Row). AreDistinct (flat_map entry_addresses ds)) round.parts (known-of es rs limits last total s).services
 
   others-numbered : AllByRecursion (λ e. is_held_by_other (Some v.created) (Some (entry_number e)) ≡ true) (round.before ++ round.behind)
   others-numbered = numbers-apart es (id, v) round.before round.behind round.parts s.numbers
@@ -152,15 +153,15 @@ module _ (es : List Row) (rs : List (List ℕ × ℕ)) (last total : ℕ) (id : 
   held-round uri = ap (λ (ds : List Row). address_holder ds uri) (sym round.parts) ∙ sym (s.addresses uri)
 
   pub against-held : (t : Tree)
-      → refusal_from_checks (position is-first_taken_address (document_addresses id.auid t)) (min (document_len t) 18446744073709551615) false (total - document_len v.tree.root) ≡ refusal_of_tree (contents_view es last) id false t
+      → refusal_from_checks (position is-first_taken_address (document_addresses id.auid t)) (min (document_len t) 18446744073709551615) false (total - document_len v.tree.root) limits.bytes ≡ refusal_in_store (contents_view es limits last) id false t
   against-held t =
-      found-so (contents_view es last) id false t is-first_taken_address false (total - document_len v.tree.root)
+      found-so (contents_view es limits last) id false t is-first_taken_address false (total - document_len v.tree.root)
       (λ uri.
-      ap (λ (us : List (List ℕ)). is_member bytes_eq us uri) (other-uris es last id ∙ ap (flat_map entry_addresses) (others-round es id v round))
+      ap (λ (us : List (List ℕ)). is_member bytes_eq us uri) (other-uris es limits last id ∙ ap (flat_map entry_addresses) (others-round es id v round))
       ∙ sym (others-hold-beside entry_addresses entry_number round.before round.behind (id, v) uri apart-round others-numbered)
       ∙ ap (λ (o : Option ℕ). is_held_by_other (Some v.created) o) (held-round uri))
       refl
-      (omega (arith, total-without es rs last total id v s found, other-lens es last id))
+      (omega (arith, total-without es rs limits last total id v s found, other-lens es limits last id))
 
   -- no address of the document is another document's
   own-untaken : AllByRecursion (λ uri. is-first_taken_address uri ≡ false) (document_addresses id.auid v.tree.root)
@@ -180,62 +181,62 @@ module _ (es : List Row) (rs : List (List ℕ × ℕ)) (last total : ℕ) (id : 
 
 -- ---- what a store finds about a tree, and about the other documents
 
-pub total-small : (es : List Row) (rs : List (List ℕ × ℕ)) (last total : ℕ) → IsConsistentStore es rs last total → total ≤ 33554432
-total-small es rs last total s = omega (arith, s.sum, (known-of es rs last total s).room)
+pub total-small : (es : List Row) (rs : List (List ℕ × ℕ)) (limits : Limits) (last total : ℕ) → IsConsistentStore es rs limits last total → total ≤ 1152921504606846976
+total-small es rs limits last total s = omega (arith, s.sum, (known-of es rs limits last total s).room, (known-of es rs limits last total s).countable)
 
-module _ (es : List Row) (rs : List (List ℕ × ℕ)) (last total : ℕ) (room : SpareCapacity) (s : StoreView) (doc : DocId) (seen : (let x : StoreView = record { content = contents_view es last; room = room } in x) ≡ s) (storing : IsConsistentStore es rs last total) where
+module _ (es : List Row) (rs : List (List ℕ × ℕ)) (limits : Limits) (last total : ℕ) (room : SpareCapacity) (s : StoreView) (doc : DocId) (seen : (let x : StoreView = record { content = contents_view es limits last; room = room } in x) ≡ s) (storing : IsConsistentStore es rs limits last total) where
   pub new-answer : (t : Tree) (uris : List (List ℕ)) (place : Option ℕ) (len : ℕ) → find_document stored_id s.content.documents doc ≡ None → uris ≡ document_addresses doc.auid t
-      → place ≡ position (λ uri. is_held_by_other None (registered_number rs uri)) uris → len ≡ min (document_len t) 18446744073709551615 → refusal_from_checks place len (nat_le 1000 (length es)) total ≡ refusal_of_tree s.content doc true t
+      → place ≡ position (λ uri. is_held_by_other None (registered_number rs uri)) uris → len ≡ min (document_len t) 18446744073709551615 → refusal_from_checks place len (nat_le limits.documents (length es)) total limits.bytes ≡ refusal_in_store s.content doc true t
   new-answer t uris place len missing own at counted =
-      let absent = absent-entry es rs last total doc storing (subst (λ (x : StoreView). find_document stored_id x.content.documents doc ≡ None) (sym seen) missing) in
+      let absent = absent-entry es rs limits last total doc storing (subst (λ (x : StoreView). find_document stored_id x.content.documents doc ≡ None) (sym seen) missing) in
       let test : List ℕ → Bool = λ uri. is_held_by_other None (registered_number rs uri) in
-      ap (λ (o : Option ℕ). refusal_from_checks o len (nat_le 1000 (length es)) total) (at ∙ ap (λ (us : List (List ℕ)). position test us) own)
-      ∙ ap (λ (n : ℕ). refusal_from_checks (position test (document_addresses doc.auid t)) n (nat_le 1000 (length es)) total) counted
-      ∙ against-new es rs last total doc t storing absent
-      ∙ ap (λ (x : StoreView). refusal_of_tree x.content doc true t) seen
+      ap (λ (o : Option ℕ). refusal_from_checks o len (nat_le limits.documents (length es)) total limits.bytes) (at ∙ ap (λ (us : List (List ℕ)). position test us) own)
+      ∙ ap (λ (n : ℕ). refusal_from_checks (position test (document_addresses doc.auid t)) n (nat_le limits.documents (length es)) total limits.bytes) counted
+      ∙ against-new es rs limits last total doc t storing absent
+      ∙ ap (λ (x : StoreView). refusal_in_store x.content doc true t) seen
 
   module _ (v : Entry) (found : Some v ≡ lookup (same_id doc) es) where
     len-here : v.len ≡ document_len v.tree.root
-    len-here = len-of es rs last total doc v storing (sym found)
+    len-here = len-of es rs limits last total doc v storing (sym found)
 
     held-tree : (h : StoredDocument) → find_document stored_id s.content.documents doc ≡ Some h → h.tree ≡ v.tree.root
     held-tree h is =
-        let r = around-of es rs last total doc v storing (sym found) in
+        let r = around-of es rs limits last total doc v storing (sym found) in
         ap (λ (x : StoredDocument). x.tree) (one-held es doc v h r (subst (λ (x : StoreView). find_document stored_id x.content.documents doc ≡ Some h) (sym seen) is))
 
     pub edit-answer : (h : StoredDocument) (t : Tree) (leaves uris : List (List ℕ)) (first len : ℕ) (place : Option ℕ) → find_document stored_id s.content.documents doc ≡ Some h
         → AreReplacedAt first (document_addresses doc.auid h.tree) leaves uris (document_addresses doc.auid t)
         → place ≡ option_map (λ i. max first i) (position (λ uri. is_held_by_other (Some v.created) (registered_number rs uri)) uris)
-        → len ≡ min (document_len t) 18446744073709551615 → refusal_from_checks place len false (total - v.len) ≡ refusal_of_tree s.content doc false t
+        → len ≡ min (document_len t) 18446744073709551615 → refusal_from_checks place len false (total - v.len) limits.bytes ≡ refusal_in_store s.content doc false t
     edit-answer h t leaves uris first len place is exchanged at counted =
         let test : List ℕ → Bool = λ uri. is_held_by_other (Some v.created) (registered_number rs uri) in
         let here = subst (λ (x : Tree). AreReplacedAt first (document_addresses doc.auid x) leaves uris (document_addresses doc.auid t)) (held-tree h is) exchanged in
-        ap (λ (o : Option ℕ). refusal_from_checks o len false (total - v.len)) (at ∙ first-first_taken_address es rs last total doc v storing (sym found) t first leaves uris here)
-        ∙ ap (λ (n : ℕ). refusal_from_checks (position test (document_addresses doc.auid t)) n false (total - v.len)) counted
-        ∙ ap (λ (n : ℕ). refusal_from_checks (position test (document_addresses doc.auid t)) (min (document_len t) 18446744073709551615) false (total - n)) len-here
-        ∙ against-held es rs last total doc v storing (sym found) t
-        ∙ ap (λ (x : StoreView). refusal_of_tree x.content doc false t) seen
+        ap (λ (o : Option ℕ). refusal_from_checks o len false (total - v.len) limits.bytes) (at ∙ first-first_taken_address es rs limits last total doc v storing (sym found) t first leaves uris here)
+        ∙ ap (λ (n : ℕ). refusal_from_checks (position test (document_addresses doc.auid t)) n false (total - v.len) limits.bytes) counted
+        ∙ ap (λ (n : ℕ). refusal_from_checks (position test (document_addresses doc.auid t)) (min (document_len t) 18446744073709551615) false (total - n) limits.bytes) len-here
+        ∙ against-held es rs limits last total doc v storing (sym found) t
+        ∙ ap (λ (x : StoreView). refusal_in_store x.content doc false t) seen
 
     pub held-as : IsStoredAs s.content doc v
     held-as =
-        let r = around-of es rs last total doc v storing (sym found) in
+        let r = around-of es rs limits last total doc v storing (sym found) in
         subst (λ (x : StoreView). IsStoredAs x.content doc v) seen (stored_view (doc, v), held-found es doc v r, refl, refl, len-here)
 
     pub no-longer : v.len ≤ total
-    no-longer = omega (arith, len-here, total-without es rs last total doc v storing (sym found))
+    no-longer = omega (arith, len-here, total-without es rs limits last total doc v storing (sym found))
 
     pub others-are : total - v.len ≡ total_len_of_others s.content doc
     others-are =
-        let here : total - v.len ≡ total_len_of_others (contents_view es last) doc = omega (arith, len-here, total-without es rs last total doc v storing (sym found), other-lens es last doc) in
+        let here : total - v.len ≡ total_len_of_others (contents_view es limits last) doc = omega (arith, len-here, total-without es rs limits last total doc v storing (sym found), other-lens es limits last doc) in
         here ∙ ap (λ (x : StoreView). total_len_of_others x.content doc) seen
 
     pub whole-is : IsSomeAnd (find_document stored_id s.content.documents doc) (λ h. (total - v.len) + document_len h.tree ≡ total_len s.content)
     whole-is =
-        let r = around-of es rs last total doc v storing (sym found) in
-        let n : (total - v.len) + document_len v.tree.root ≡ total_len (contents_view es last) =
-        omega (arith, len-here, total-without es rs last total doc v storing (sym found), storing.sum, total-is es last) in
+        let r = around-of es rs limits last total doc v storing (sym found) in
+        let n : (total - v.len) + document_len v.tree.root ≡ total_len (contents_view es limits last) =
+        omega (arith, len-here, total-without es rs limits last total doc v storing (sym found), storing.sum, total-is es limits last) in
         subst (λ (x : StoreView). IsSomeAnd (find_document stored_id x.content.documents doc) (λ h. (total - v.len) + document_len h.tree ≡ total_len x.content)) seen
-        (subst (λ (o : Option StoredDocument). IsSomeAnd o (λ h. (total - v.len) + document_len h.tree ≡ total_len (contents_view es last))) (sym (held-found es doc v r)) n)
+        (subst (λ (o : Option StoredDocument). IsSomeAnd o (λ h. (total - v.len) + document_len h.tree ≡ total_len (contents_view es limits last))) (sym (held-found es doc v r)) n)
 
 -- ---- what is returned
 

@@ -10,6 +10,7 @@ use Rattle.usage_docs.specs.Services.{document_len}
 use Rattle.doc_names.specs.declared.usages.Usage.{Usage}
 use Rattle.doc_names.specs.NameEquality.{same_id}
 use Rattle.doc_names.specs.declared.doc_id.DocId.{DocId}
+use Rattle.store_core.specs.declared.limits.Limits.{Limits}
 use Rattle.store_core.specs.declared.entry.Entry.{Entry}
 use Rattle.store_core.specs.State.{Document, State}
 use Rattle.store_core.specs.Contents.{StoredDocument, Represents, stored_document, StoreContents as Content}
@@ -113,12 +114,13 @@ around es doc v apart h =
 
 -- ---- what a valid state says of the entries of a store that represents it
 
-pub record Known (es : List (DocId × Entry)) : Type 0 where
+pub record Known (es : List (DocId × Entry)) (limits : Limits) : Type 0 where
   pub names : AreDistinct (map entry_id es)
   pub services : AreDistinct (flat_map entry_addresses es)
   pub low : AllByRecursion (λ e. height e.1.tree.root ≤ 64) es
-  pub few : length es ≤ 1000
-  pub room : sum_by entry_len es ≤ 33554432
+  pub few : length es ≤ limits.documents
+  pub room : sum_by entry_len es ≤ limits.bytes
+  pub countable : limits.bytes ≤ 1152921504606846976
 
 low-of : (usage : Option Usage) (t : Tree) → IsSoundDocumentFor usage t → height t ≤ 64
 low-of None t h = absurd h
@@ -132,8 +134,8 @@ each-tree P m es same by k =
     let held : Document → Type 0 = λ d. P d.now.tree in
     each-unmapped Q stored_view es (subst (λ (hs : List StoredDocument). AllByRecursion Q hs) (sym same) (each-mapped Q stored_document m.documents (each-weaker kept held by m.documents k)))
 
-pub known : (es : List (DocId × Entry)) (last : ℕ) (m : State) → Represents (contents_view es last) m → IsValidState m → Known es
-known es last m s k =
+pub known : (es : List (DocId × Entry)) (limits : Limits) (last : ℕ) (m : State) → Represents (contents_view es limits last) m → IsValidState m → Known es limits
+known es limits last m s k =
     let ds = m.documents in
     let same : map stored_view es ≡ map stored_document ds = ap (λ (c : Content). c.documents) s in
     let name : StoredDocument → DocId = λ h. h.id in
@@ -142,10 +144,13 @@ known es last m s k =
     let names : map entry_id es ≡ map (λ (d : Document). d.id) ds = sym (mapped name stored_view es) ∙ ap (map name) same ∙ mapped name stored_document ds in
     let services : flat_map entry_addresses es ≡ all_addresses ds = sym (flat_map-map uris stored_view es) ∙ ap (flat_map uris) same ∙ flat_map-map uris stored_document ds in
     let lens : sum_by entry_len es ≡ sum_by (λ (d : Document). document_len d.now.tree) ds = sym (sum-mapped len stored_view es) ∙ ap (sum_by len) same ∙ sum-mapped len stored_document ds in
+    let within : limits.documents ≡ m.limits.documents = ap (λ (c : Content). c.limits.documents) s in
+    let within_bytes : limits.bytes ≡ m.limits.bytes = ap (λ (c : Content). c.limits.bytes) s in
     record {
       names = subst (λ (xs : List DocId). AreDistinct xs) (sym names) k.names;
       services = subst (λ (xs : List (List ℕ)). AreDistinct xs) (sym services) k.services;
       low = each-tree (λ t. height t ≤ 64) m es same (λ d h. low-of (usage_of d.id.auid) d.now.tree h.sound.0) k.documents;
-      few = omega (arith, k.few, ap (λ (hs : List StoredDocument). length hs) same, length-map es stored_view, length-map ds stored_document);
-      room = omega (arith, k.room, lens);
+      few = omega (arith, k.few, within, ap (λ (hs : List StoredDocument). length hs) same, length-map es stored_view, length-map ds stored_document);
+      room = omega (arith, k.room, within_bytes, lens);
+      countable = omega (arith, k.countable.1, within_bytes);
     }

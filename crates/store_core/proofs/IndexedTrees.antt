@@ -16,6 +16,7 @@ use Rattle.doc_names.specs.declared.doc_id.Auid.TheVariants.{ResourceLists, RlsS
 use Rattle.doc_names.specs.declared.doc_id.Home.{Home}
 use Rattle.doc_names.specs.declared.doc_id.Home.TheVariants.{Global, User}
 use Rattle.doc_names.specs.declared.doc_id.DocId.{DocId}
+use Rattle.store_core.specs.declared.limits.Limits.{Limits}
 use Rattle.store_core.specs.declared.entry.Entry.{Entry}
 use Rattle.store_core.specs.Indexes.{AreIndexTrees, index, index_entry, entry_if_listed}
 use Rattle.store_core.specs.ValidStates.{AreDistinct}
@@ -126,13 +127,13 @@ trees-in-pairs (e ∷ es) = ap (λ (ts : List Tree). e.1.now ∷ ts) (trees-in-p
 
 -- ---- in a store
 
-module _ (es : List Row) (rs : List (List ℕ × ℕ)) (last total : ℕ) (storing : IsConsistentStore es rs last total) where
+module _ (es : List Row) (rs : List (List ℕ × ℕ)) (limits : Limits) (last total : ℕ) (storing : IsConsistentStore es rs limits last total) where
   -- the entries of such a map for a store's documents are in order
   pub index_entries-in-order : with_entries [] (index_entries es) ≡ in_order (index_entries es)
-  index_entries-in-order = with_entries-in-order (index_entries es) (users-apart es (known-of es rs last total storing).names)
+  index_entries-in-order = with_entries-in-order (index_entries es) (users-apart es (known-of es rs limits last total storing).names)
 
   pub low-in-order : AllByRecursion IsWithinLevels (in_order (index_entries es))
-  low-in-order = each-in-order IsWithinLevels (index_entries es) (low-index_entries es (known-of es rs last total storing).low)
+  low-in-order = each-in-order IsWithinLevels (index_entries es) (low-index_entries es (known-of es rs limits last total storing).low)
 
   module _ (made : List (Bor (List ℕ) × Bor Tree)) (all : borrowed_pairs made ≡ with_entries [] (index_entries es)) (trees : List (Bor Tree)) (shown : trees ≡ values_of made) where
     trees-in-order : map (λ (t : Bor Tree). t.now) trees ≡ map (λ (d : Pair). d.1) (in_order (index_entries es))
@@ -140,7 +141,7 @@ module _ (es : List Row) (rs : List (List ℕ × ℕ)) (last total : ℕ) (stori
         ap (map (λ (t : Bor Tree). t.now)) shown ∙ trees-in-pairs made ∙ ap (map (λ (d : Pair). d.1)) (all ∙ index_entries-in-order)
 
     -- so they are those that the index lists
-    pub trees-index_entries : (room : SpareCapacity) (s : StoreView) → (let x : StoreView = record { content = contents_view es last; room = room } in x) ≡ s → AreIndexTrees s.content (map (λ (t : Bor Tree). t.now) trees)
+    pub trees-index_entries : (room : SpareCapacity) (s : StoreView) → (let x : StoreView = record { content = contents_view es limits last; room = room } in x) ≡ s → AreIndexTrees s.content (map (λ (t : Bor Tree). t.now) trees)
     trees-index_entries room s seen =
         subst (AreIndexTrees s.content) (sym (trees-in-order ∙ ap (λ (x : StoreView). index_trees x.content) seen)) (some-index-trees s.content)
 

@@ -11,8 +11,10 @@ use Rattle.doc_names.specs.declared.doc_id.DocId.{DocId}
 use Rattle.edit_ops.specs.Changes.{FitsTree, edited}
 use Rattle.edit_ops.specs.declared.change.Change.{Change}
 use Rattle.edit_ops.specs.Notes.{note_of}
-use Rattle.store_core.specs.State.{Document, State, Version, versions, document_after, new_document, first_state}
-use Rattle.store_core.specs.ValidStates.{AreDistinct, IsValidHistory, IsSoundDocumentFor, IsUserHome, IsValidState, all_addresses}
+use Rattle.store_core.specs.State.{Document, State, Version, versions, document_after, new_document, default_limits, first_state, first_state_within}
+use Rattle.store_core.specs.declared.limits.Limits.{Limits}
+use Rattle.store_core.specs.HomeLimits.{IsWithin}
+use Rattle.store_core.specs.ValidStates.{AreCountable, AreDistinct, AreHomesWithinLimits, IsValidHistory, IsSoundDocumentFor, IsUserHome, IsValidState, all_addresses}
 use Rattle.doc_names.specs.Usages.{usage_of}
 use Rattle.store_core.specs.DocumentChanges.{ChangeKind, Makes, Edits, Removes, change_kind, state_after, state_after_by_kind}
 use Rattle.store_core.specs.AcceptableChanges.{IsAcceptable, IsAcceptableByKind}
@@ -97,8 +99,8 @@ none-behind id d (e ∷ es) p h = (other-name id d.id e.id (same_id id e.id) ref
 -- ---- a creation
 
 kept-made : (m : State) (id : DocId) (change : Change) (root : Tree) → IsValidState m → IsAcceptableByKind m id change (Makes root) → AreDistinct (all_addresses (state_after_by_kind m id change (Makes root)).documents)
-    → length (state_after_by_kind m id change (Makes root)).documents ≤ 1000 → sum_by (λ d. document_len d.now.tree) (state_after_by_kind m id change (Makes root)).documents ≤ 33554432 → IsValidState (state_after_by_kind m id change (Makes root))
-kept-made m id change root k s services few room =
+    → length (state_after_by_kind m id change (Makes root)).documents ≤ m.limits.documents → sum_by (λ d. document_len d.now.tree) (state_after_by_kind m id change (Makes root)).documents ≤ m.limits.bytes → AreHomesWithinLimits m.limits (state_after_by_kind m id change (Makes root)).documents → IsValidState (state_after_by_kind m id change (Makes root))
+kept-made m id change root k s services few room homes =
     let ds = m.documents in
     let new = new_document id m.next root in
     let names : AreDistinct (map name_of ds ++ id ∷ []) =
@@ -111,8 +113,10 @@ kept-made m id change root k s services few room =
       names = subst (λ (xs : List DocId). AreDistinct xs) (sym (map-append name_of ds (new ∷ []))) names;
       tags = subst (λ (xs : List ℕ). AreDistinct xs) (sym (flat_map-append tags_of ds (new ∷ []))) tags;
       services = services;
+      countable = k.countable;
       few = few;
       room = room;
+      homes = homes;
     }
 
 -- ---- a stored document
@@ -167,8 +171,8 @@ found-and m id P None e h = absurd h
 found-and m id P (Some d) e h = record { document = d; found = e; holds = h }
 
 kept-edited : (m : State) (id : DocId) (change : Change) → IsValidState m → IsAcceptableByKind m id change Edits → AreDistinct (all_addresses (state_after_by_kind m id change Edits).documents)
-    → length (state_after_by_kind m id change Edits).documents ≤ 1000 → sum_by (λ d. document_len d.now.tree) (state_after_by_kind m id change Edits).documents ≤ 33554432 → IsValidState (state_after_by_kind m id change Edits)
-kept-edited m id change k s services few room =
+    → length (state_after_by_kind m id change Edits).documents ≤ m.limits.documents → sum_by (λ d. document_len d.now.tree) (state_after_by_kind m id change Edits).documents ≤ m.limits.bytes → AreHomesWithinLimits m.limits (state_after_by_kind m id change Edits).documents → IsValidState (state_after_by_kind m id change Edits)
+kept-edited m id change k s services few room homes =
     let f = found-and m id (λ d. FitsTree d.now.tree change × IsSoundDocumentFor (usage_of d.id.auid) (edited d.now.tree change)) (find (λ e. same_id id e.id) m.documents) refl s in
     let d = f.document in
     let r = round m id d k f.found in
@@ -187,8 +191,10 @@ kept-edited m id change k s services few room =
           subst (λ (xs : List ℕ). AreDistinct xs) (sym (ap (flat_map tags_of) docs ∙ flat_map-append tags_of r.before (update_entry d ∷ r.behind)))
           (apart-put (flat_map tags_of r.before) (tags_of d ++ flat_map tags_of r.behind) m.next r.tags (below-round m id d r));
       services = services;
+      countable = k.countable;
       few = few;
       room = room;
+      homes = homes;
     }
 
 found-some : (m : State) (id : DocId) (o : Option Document) → find (λ e. same_id id e.id) m.documents ≡ o → IsSome o → Found m id (λ d. Unit {0})
@@ -196,8 +202,8 @@ found-some m id None e h = cc
 found-some m id (Some d) e h = record { document = d; found = e; holds = tt }
 
 kept-removed : (m : State) (id : DocId) (change : Change) → IsValidState m → IsAcceptableByKind m id change Removes → AreDistinct (all_addresses (state_after_by_kind m id change Removes).documents)
-    → length (state_after_by_kind m id change Removes).documents ≤ 1000 → sum_by (λ d. document_len d.now.tree) (state_after_by_kind m id change Removes).documents ≤ 33554432 → IsValidState (state_after_by_kind m id change Removes)
-kept-removed m id change k s services few room =
+    → length (state_after_by_kind m id change Removes).documents ≤ m.limits.documents → sum_by (λ d. document_len d.now.tree) (state_after_by_kind m id change Removes).documents ≤ m.limits.bytes → AreHomesWithinLimits m.limits (state_after_by_kind m id change Removes).documents → IsValidState (state_after_by_kind m id change Removes)
+kept-removed m id change k s services few room homes =
     let f = found-some m id (find (λ e. same_id id e.id) m.documents) refl s in
     let d = f.document in
     let r = round m id d k f.found in
@@ -212,18 +218,38 @@ kept-removed m id change k s services few room =
       names = subst (λ (xs : List DocId). AreDistinct xs) (sym (ap (map name_of) docs ∙ map-append name_of r.before r.behind)) (apart-cut (map name_of r.before) (d.id ∷ []) (map name_of r.behind) r.names);
       tags = subst (λ (xs : List ℕ). AreDistinct xs) (sym (ap (flat_map tags_of) docs ∙ flat_map-append tags_of r.before r.behind)) (apart-cut (flat_map tags_of r.before) (tags_of d) (flat_map tags_of r.behind) r.tags);
       services = services;
+      countable = k.countable;
       few = few;
       room = room;
+      homes = homes;
     }
 
 kept-act : (m : State) (id : DocId) (change : Change) (act : ChangeKind) → IsValidState m → IsAcceptableByKind m id change act → AreDistinct (all_addresses (state_after_by_kind m id change act).documents)
-    → length (state_after_by_kind m id change act).documents ≤ 1000 → sum_by (λ d. document_len d.now.tree) (state_after_by_kind m id change act).documents ≤ 33554432 → IsValidState (state_after_by_kind m id change act)
+    → length (state_after_by_kind m id change act).documents ≤ m.limits.documents → sum_by (λ d. document_len d.now.tree) (state_after_by_kind m id change act).documents ≤ m.limits.bytes → AreHomesWithinLimits m.limits (state_after_by_kind m id change act).documents → IsValidState (state_after_by_kind m id change act)
 kept-act m id change (Makes root) = kept-made m id change root
 kept-act m id change Edits = kept-edited m id change
 kept-act m id change Removes = kept-removed m id change
 
+within-nothing : (l : Option ℕ) → IsWithin l 0
+within-nothing None = tt
+within-nothing (Some most) = omega arith
+
+pub kept-first-within : (limits : Limits) (first : ℕ) → 1 ≤ first → AreCountable limits → IsValidState (first_state_within limits first)
+kept-first-within limits first h most =
+    record {
+      started = h;
+      documents = tt;
+      names = tt;
+      tags = tt;
+      services = tt;
+      countable = most;
+      few = omega arith;
+      room = omega arith;
+      homes = λ home. record { few = within-nothing limits.home_documents; room = within-nothing limits.home_bytes };
+    }
+
 pub kept-first : (first : ℕ) → 1 ≤ first → IsValidState (first_state first)
-kept-first first h = record { started = h; documents = tt; names = tt; tags = tt; services = tt; few = omega arith; room = omega arith }
+kept-first first h = kept-first-within default_limits first h (omega arith, omega arith)
 
 pub kept-state_after : (m : State) (id : DocId) (change : Change) → IsValidState m → IsAcceptable m id change → IsValidState (state_after m id change)
-kept-state_after m id change k s = kept-act m id change (change_kind change) k s.act s.services s.few s.room
+kept-state_after m id change k s = kept-act m id change (change_kind change) k s.act s.services s.few s.room s.homes

@@ -1,5 +1,5 @@
 -- The result of planning a change, from the reasons against it and its parts.
-use Rattle.std.proofs.Common.{◌≡◌, ℕ, ◌+◌, ◌≤◌, Bool, true, false, List, [], length, sum_by, Option, None, Some, IsSome, option_map, Result, Ok, Err, refl, sym, ap, subst, ◌∙◌, arith}
+use Rattle.std.proofs.Common.{◌≡◌, ℕ, ◌+◌, ◌≤◌, Bool, true, false, List, [], length, Option, None, Some, IsSome, option_map, Result, Ok, Err, refl, sym, ap, subst, ◌∙◌}
 use Rattle.std.proofs.lemmas.Option.{same_Some}
 use Rattle.std.specs.Map.{lookup}
 use Rattle.std.specs.Option.{option_or as or_else}
@@ -20,12 +20,11 @@ use Rattle.store_core.specs.declared.step.EntryStep.TheVariants.{Make, Edit, End
 use Rattle.store_core.specs.Contents.{StoredDocument, StoreContents as Content}
 use Rattle.store_core.specs.ValidStates.{IsSoundDocumentFor, document_addresses}
 use Rattle.store_core.specs.ChangePreconditions.{MayRequest, MayBeDocumentFor}
-use Rattle.store_core.specs.DocumentChanges.{ChangeKind, Edits, change_kind, refusal_of, refusal_of_number, refusal_of_tree, refusal_or, change_result, contents_after, find_document, stored_id, note_for, total_len_of_others}
+use Rattle.store_core.specs.DocumentChanges.{ChangeKind, Edits, change_kind, refusal_of, refusal_of_number, refusal_of_tree, refusal_or, change_result, contents_after, find_document, stored_id, note_for}
 use Rattle.store_core.specs.TreeChanges.{IsStagedTreeFor, edits_within_root}
 use Rattle.store_core.specs.inner.UnsharedTrees.{IsUnshared}
 use Rattle.store_core.specs.PreparedChanges.{ReplacesAddresses, HasTreeForStep, IsPlanned, IsReady, IsStepOf, PreparedChange, total_len}
-use Rattle.store_core.proofs.AcceptedChanges.{passes, not_found_refusal}
-use Rattle.store_core.proofs.DistinctItems.{none-filtered}
+use Rattle.store_core.proofs.AcceptedChanges.{passes}
 use Rattle.store_core.proofs.ChangePremises.{asked, found-name}
 use Rattle.store_core.proofs.ServiceChanges.{exchanged-by}
 use Rattle.store_core.proofs.ChangeReasons.{refused-first, refused-last, not-refused-at-all}
@@ -68,6 +67,10 @@ nothing-read (Some x) e h = cc
 pub some-held : (o : Option StoredDocument) (h : StoredDocument) → o ≡ Some h → IsSome o
 some-held o h e = rw e refl
 
+-- a tree that isn't refused is short
+pub is-short : (c : Content) (doc : DocId) (is_new : Bool) (t : Tree) → refusal_of_tree c doc is_new t ≡ None → document_len t ≤ 262144
+is-short c doc is_new t h = (passes c doc is_new t h).short
+
 -- ---- a creation
 
 pub creation-refused : (c : Content) (doc : DocId) (root : Tree) (e : StoreRefusal) → refusal_of_tree c doc true root ≡ Some e → IsPlanResult c doc (CreateDocument root) (Err e)
@@ -79,16 +82,6 @@ pub creation-unnumbered : (c : Content) (doc : DocId) (root : Tree) (e : StoreRe
 creation-unnumbered c doc root e h g =
     let change = CreateDocument root in
     plans-refused c doc change e (refused-last (refusal_of_tree c doc true root) (refusal_of_number c) e (note_for c doc change (find_document stored_id c.documents doc)) (contents_after c doc change) h g)
-
-other-lengths-new : (c : Content) (doc : DocId) → find_document stored_id c.documents doc ≡ None → total_len_of_others c doc ≡ total_len c
-other-lengths-new c doc missing =
-    let q : StoredDocument → Bool = λ h. same_id doc h.id in
-    ap (λ (hs : List StoredDocument). sum_by (λ (h : StoredDocument). document_len h.tree) hs) (none-filtered q c.documents (not_found_refusal q c.documents missing))
-
-pub creation-room : (c : Content) (doc : DocId) (root : Tree) → find_document stored_id c.documents doc ≡ None → refusal_of_tree c doc true root ≡ None → (total_len c + document_len root ≤ 33554432) × (document_len root ≤ 262144)
-creation-room c doc root missing h =
-    let p = passes c doc true root h in
-    (omega (arith, p.room, other-lengths-new c doc missing), p.short)
 
 pub creation-planned : (c : Content) (doc : DocId) (root : Tree) (o : Outline) → MayRequest c doc (CreateDocument root) → IsCreationOutline c doc root o
     → IsPlanResult c doc (CreateDocument root) (Ok (record { doc = doc; note = record { previous = 0; next = o.number; bindings = []; change = CreateDocument root; fresh = false }; step = Make doc (new_entry o.number root); leaves = o.leaves; enters = o.enters; total = o.total }))
@@ -130,9 +123,6 @@ edit-unnumbered c doc change h t e edits found tree g n =
     plans-refused c doc change e
     (edit-change_result c doc change h edits found
     ∙ refused-last (refusal_of_tree c doc false (edited h.tree change)) (refusal_of_number c) e note (contents_after c doc change) (ap (λ (x : Tree). refusal_of_tree c doc false x) (sym tree) ∙ g) n)
-
-pub edit-room : (c : Content) (doc : DocId) (t : Tree) → refusal_of_tree c doc false t ≡ None → (total_len_of_others c doc + document_len t ≤ 33554432) × (document_len t ≤ 262144)
-edit-room c doc t h = let p = passes c doc false t h in (p.room, p.short)
 
 -- which of its addresses are replaced
 pub edit-exchanged : (c : Content) (doc : DocId) (change : Change) (h : StoredDocument) (t : Tree) (first : ℕ) (leaves enters : List (List ℕ)) → MayRequest c doc change → change_kind change ≡ Edits

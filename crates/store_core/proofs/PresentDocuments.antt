@@ -50,10 +50,16 @@ number_after c m id change (Makes root) number = ap (λ (n : ℕ). n + 1) number
 number_after c m id change Edits number = ap (λ (n : ℕ). n + 1) number
 number_after c m id change Removes number = ap (λ (n : ℕ). n + 1) number
 
+limits_after : (c : Content) (m : State) (id : DocId) (change : Change) (act : ChangeKind) → c.limits ≡ m.limits → (contents_after_by_kind c id change act).limits ≡ (state_after_by_kind m id change act).limits
+limits_after c m id change (Makes root) same = same
+limits_after c m id change Edits same = same
+limits_after c m id change Removes same = same
+
 pub has_documents_after : (c : Content) (m : State) (id : DocId) (change : Change) → HasDocumentsOf c m → HasDocumentsOf (contents_after c id change) (state_after m id change)
 has_documents_after c m id change has = record {
   documents = present_after c m id change (change_kind change) has.documents has.next;
   next = number_after c m id change (change_kind change) has.next;
+  limits = limits_after c m id change (change_kind change) has.limits;
 }
 
 same_now : (ds : List Document) → map stored_now (map stored_document ds) ≡ map document_now ds
@@ -62,4 +68,4 @@ same_now (d ∷ ds) = ap (λ (ps : List Present). document_now d ∷ ps) (same_n
 
 -- contents that represent a state have its documents
 pub represented : (c : Content) (m : State) → Represents c m → HasDocumentsOf c m
-represented c m stands = subst (λ (x : Content). HasDocumentsOf x m) (sym stands) (record { documents = same_now m.documents; next = refl })
+represented c m stands = subst (λ (x : Content). HasDocumentsOf x m) (sym stands) (record { documents = same_now m.documents; next = refl; limits = refl })

@@ -8,6 +8,7 @@ use Rattle.std.specs.Str.{bytes_eq}
 use Rattle.doc_names.specs.NameEquality.{same_id}
 use Rattle.doc_names.specs.contracts.doc_id.DocIdPartialEq.TheImpl.{eq-value}
 use Rattle.doc_names.specs.declared.doc_id.DocId.{DocId}
+use Rattle.store_core.specs.declared.limits.Limits.{Limits}
 use Rattle.store_core.specs.declared.entry.Entry.{Entry}
 use Rattle.store_core.specs.Contents.{StoredDocument, StoreContents as Content}
 use Rattle.store_core.specs.ValidStates.{AreDistinct}
@@ -99,6 +100,9 @@ own-missing doc es none = λ b found.
 abbrev HasLen : Row → Type 0
 HasLen e = e.1.len ≡ entry_len e
 
+abbrev IsUnedited : Row → Type 0
+IsUnedited e = e.1.notes ≡ [] → entry_number e ≡ e.1.tag
+
 held-alike : (es : List Row) (uri : List ℕ) → address_holder (all_as_unshared es) uri ≡ address_holder es uri
 held-alike [] uri = refl
 held-alike (e ∷ es) uri = ap (λ (o : Option ℕ). cond (is_member bytes_eq (entry_addresses e) uri) (Some (entry_number e)) o) (held-alike es uri)
@@ -110,17 +114,18 @@ module _ (es ds : List Row) (same : all_as_unshared ds ≡ all_as_unshared es) w
   same-numbers : map entry_number ds ≡ map entry_number es
   same-numbers = sym (mapped entry_number own_row ds) ∙ ap (map entry_number) same ∙ mapped entry_number own_row es
 
-  pub alike-content : (last : ℕ) → contents_view ds last ≡ contents_view es last
-  alike-content last = ap (λ (hs : List StoredDocument). let c : Content = record { documents = hs; next = last + 1 } in c) same-held
+  pub alike-content : (limits : Limits) (last : ℕ) → contents_view ds limits last ≡ contents_view es limits last
+  alike-content limits last = ap (λ (hs : List StoredDocument). let c : Content = record { documents = hs; next = last + 1; limits = limits } in c) same-held
 
-  pub alike-storing : (rs : List (List ℕ × ℕ)) (last total : ℕ) → IsConsistentStore es rs last total → IsConsistentStore ds rs last total
-  alike-storing rs last total s =
+  pub alike-storing : (rs : List (List ℕ × ℕ)) (limits : Limits) (last total : ℕ) → IsConsistentStore es rs limits last total → IsConsistentStore ds rs limits last total
+  alike-storing rs limits last total s =
       let P : ℕ → Type 0 = λ n. n ≤ last in
       record {
-        kept = (s.kept.0, alike-content last ∙ s.kept.1, s.kept.2);
+        kept = (s.kept.0, alike-content limits last ∙ s.kept.1, s.kept.2);
         addresses = λ uri. s.addresses uri ∙ sym (held-alike es uri) ∙ ap (λ (xs : List Row). address_holder xs uri) (sym same) ∙ held-alike ds uri;
         numbers = subst (λ (ns : List ℕ). AreDistinct ns) (sym same-numbers) s.numbers;
         given = each-unmapped P entry_number ds (subst (λ (ns : List ℕ). AllByRecursion P ns) (sym same-numbers) (each-mapped P entry_number es s.given));
         sum = s.sum ∙ sym (sum-mapped entry_len own_row es) ∙ ap (sum_by entry_len) (sym same) ∙ sum-mapped entry_len own_row ds;
         lens = each-unmapped HasLen own_row ds (subst (λ (xs : List Row). AllByRecursion HasLen xs) (sym same) (each-mapped HasLen own_row es s.lens));
+        unedited = each-unmapped IsUnedited own_row ds (subst (λ (xs : List Row). AllByRecursion IsUnedited xs) (sym same) (each-mapped IsUnedited own_row es s.unedited));
       }

@@ -1,5 +1,5 @@
 -- The contents that represent a state follow a change of the state.
-use Rattle.std.proofs.Common.{◌≡◌, ℕ, ◌+◌, Bool, true, false, not, cond, List, [], ◌∷◌, ◌++◌, map, filter, refl, sym, ap, ap₂, ◌∙◌}
+use Rattle.std.proofs.Common.{◌≡◌, ℕ, ◌+◌, Bool, true, false, not, cond, List, [], ◌∷◌, ◌++◌, map, filter, refl, sym, ap, ◌∙◌}
 use Rattle.std.proofs.lemmas.List.{map-append, reverse-append}
 use Rattle.std.specs.List.{filter_map}
 use Rattle.doc_names.specs.declared.doc_id.DocId.{DocId}
@@ -48,27 +48,27 @@ held-document_after number change d =
 
 -- ---- all documents
 
-alike : (c d : Content) → c.documents ≡ d.documents → c.next ≡ d.next → c ≡ d
-alike c d documents next = ap₂ (λ (hs : List StoredDocument) (n : ℕ). let made : Content = record { documents = hs; next = n } in made) documents next
+alike : (c d : Content) → c.documents ≡ d.documents → c.next ≡ d.next → c.limits ≡ d.limits → c ≡ d
+alike c d documents next limits i = record { documents = documents i; next = next i; limits = limits i }
 
-stood : (c : Content) (m : State) (id : DocId) (change : Change) (act : ChangeKind) → c.documents ≡ map stored_document m.documents → c.next ≡ m.next → Represents (contents_after_by_kind c id change act) (state_after_by_kind m id change act)
-stood c m id change (Makes root) documents next =
+stood : (c : Content) (m : State) (id : DocId) (change : Change) (act : ChangeKind) → c.documents ≡ map stored_document m.documents → c.next ≡ m.next → c.limits ≡ m.limits → Represents (contents_after_by_kind c id change act) (state_after_by_kind m id change act)
+stood c m id change (Makes root) documents next limits =
     alike (contents_after_by_kind c id change (Makes root)) (content_of (state_after_by_kind m id change (Makes root)))
     (ap (λ (n : ℕ). c.documents ++ stored_document (new_document id n root) ∷ []) next
     ∙ ap (λ (hs : List StoredDocument). hs ++ stored_document (new_document id m.next root) ∷ []) documents
     ∙ sym (map-append stored_document m.documents (new_document id m.next root ∷ [])))
-    (ap (λ n. n + 1) next)
-stood c m id change Edits documents next =
+    (ap (λ n. n + 1) next) limits
+stood c m id change Edits documents next limits =
     alike (contents_after_by_kind c id change Edits) (content_of (state_after_by_kind m id change Edits))
     (ap (λ (n : ℕ). map (λ (h : StoredDocument). cond (same_id id h.id) (stored_document_after n change h) h) c.documents) next
     ∙ ap (λ (hs : List StoredDocument). map (λ (h : StoredDocument). cond (same_id id h.id) (stored_document_after m.next change h) h) hs) documents
     ∙ sym (map-exchanged stored_document (λ (d : Document). same_id id d.id) (λ (h : StoredDocument). same_id id h.id) (λ d. refl) (λ (d : Document). document_after m.next d (note_of d.now.tag m.next d.now.tree change)) (stored_document_after m.next change) (held-document_after m.next change) m.documents))
-    (ap (λ n. n + 1) next)
-stood c m id change Removes documents next =
+    (ap (λ n. n + 1) next) limits
+stood c m id change Removes documents next limits =
     alike (contents_after_by_kind c id change Removes) (content_of (state_after_by_kind m id change Removes))
     (ap (λ (hs : List StoredDocument). filter (λ (h : StoredDocument). not (same_id id h.id)) hs) documents
     ∙ sym (map-filtered stored_document (λ (d : Document). not (same_id id d.id)) (λ (h : StoredDocument). not (same_id id h.id)) (λ d. refl) m.documents))
-    (ap (λ n. n + 1) next)
+    (ap (λ n. n + 1) next) limits
 
 pub stands-state_after : (c : Content) (m : State) (id : DocId) (change : Change) → Represents c m → Represents (contents_after c id change) (state_after m id change)
-stands-state_after c m id change s = stood c m id change (change_kind change) (ap (λ (x : Content). x.documents) s) (ap (λ (x : Content). x.next) s)
+stands-state_after c m id change s = stood c m id change (change_kind change) (ap (λ (x : Content). x.documents) s) (ap (λ (x : Content). x.next) s) (ap (λ (x : Content). x.limits) s)

@@ -1,11 +1,10 @@
--- The change records since a version, found in two slices and by a document's entry.
+-- The change records since a version, found in two pieces and by a document's entry.
 use Rattle.std.proofs.Common.{◌≡◌, ℕ, ◌==◌, Bool, true, false, if◌then◌else◌, List, [], ◌∷◌, ◌++◌, map, Option, None, Some, refl, sym, ap, ◌∙◌}
 use Rattle.std.specs.Map.{lookup}
 use Rattle.std.specs.Option.{option_map}
 use Rattle.doc_names.specs.NameEquality.{same_id}
 use Rattle.doc_names.specs.declared.doc_id.DocId.{DocId}
 use Rattle.edit_ops.specs.Notes.{Note}
-use Rattle.edit_ops.specs.RecordParts.{all_notes as joined}
 use Rattle.store_core.specs.declared.entry.Entry.{Entry}
 use Rattle.store_core.specs.DocumentChanges.{find_document, stored_id}
 use Rattle.store_core.specs.Contents.{StoredDocument}
@@ -15,7 +14,7 @@ use Rattle.store_core.specs.inner.StoreMemory.{stored_view}
 use Rattle.store_core.proofs.Entries.{read-as}
 use Rattle.store_core.specs.StoreViews.{StoreView}
 
--- ---- in two slices
+-- ---- in two pieces
 
 abbrev either : Option (List Note) → List Note → Option (List Note) → Option (List Note)
 either None ys o = o
@@ -30,10 +29,10 @@ from-append tag (x ∷ xs) ys = by (x.previous == tag) (from-append tag xs ys)
     by true rest = refl
     by false rest = rest
 
-pub in-older : (tag : ℕ) (older newer found : List Note) → Some found ≡ notes_from tag older → Some (joined found newer) ≡ notes_from tag (joined older newer)
+pub in-older : (tag : ℕ) (older newer found : List Note) → Some found ≡ notes_from tag older → Some (found ++ newer) ≡ notes_from tag (older ++ newer)
 in-older tag older newer found is = ap (λ (o : Option (List Note)). either o newer (notes_from tag newer)) is ∙ sym (from-append tag older newer)
 
-pub in-newer : (tag : ℕ) (older newer : List Note) → None ≡ notes_from tag older → notes_from tag newer ≡ notes_from tag (joined older newer)
+pub in-newer : (tag : ℕ) (older newer : List Note) → None ≡ notes_from tag older → notes_from tag newer ≡ notes_from tag (older ++ newer)
 in-newer tag older newer none = ap (λ (o : Option (List Note)). either o newer (notes_from tag newer)) none ∙ sym (from-append tag older newer)
 
 -- ---- by the entry

@@ -7,9 +7,9 @@ use Rattle.doc_names.specs.DocIds.{IsAddressable}
 use Rattle.doc_names.specs.declared.doc_id.DocId.{DocId}
 use Rattle.edit_ops.specs.Changes.{FitsTree, edited}
 use Rattle.edit_ops.specs.declared.change.Change.{Change}
-use Rattle.store_core.specs.declared.limits.TheConstants.{MAX_BYTES_TOGETHER, MAX_DOCUMENTS}
 use Rattle.store_core.specs.State.{State}
-use Rattle.store_core.specs.ValidStates.{AreDistinct, IsSoundDocumentFor, IsUserHome, all_addresses}
+use Rattle.store_core.specs.ValidStates.{AreDistinct, IsSoundDocumentFor, IsUserHome}
+use Rattle.store_core.specs.ValidStates.{AreHomesWithinLimits, all_addresses}
 use Rattle.doc_names.specs.Usages.{usage_of}
 use Rattle.store_core.specs.DocumentChanges.{ChangeKind, Makes, Edits, Removes, change_kind}
 use Rattle.store_core.specs.DocumentChanges.{state_after, find_document}
@@ -27,6 +27,7 @@ IsAcceptableByKind m id change Removes = IsSome (find_document document_id m.doc
 pub record IsAcceptable (m : State) (id : DocId) (change : Change) : Type 0 where
   pub act : IsAcceptableByKind m id change (change_kind change)
   pub services : AreDistinct (all_addresses (state_after m id change).documents)
-  pub few : length (state_after m id change).documents ≤ MAX_DOCUMENTS
+  pub few : length (state_after m id change).documents ≤ m.limits.documents
   pub room : sum_by (λ d. document_len d.now.tree) (state_after m id change).documents
-      ≤ MAX_BYTES_TOGETHER
+      ≤ m.limits.bytes
+  pub homes : AreHomesWithinLimits m.limits (state_after m id change).documents

@@ -1,6 +1,5 @@
 -- The meaning of a store's result with the records since a version.
 use Rattle.store_core.specs.Since.{ChangesSince, ReportedChanges}
-use Rattle.edit_ops.specs.RecordParts.{all_notes}
 use Rattle.store_core.specs.Since as since
 use Rattle.store_core.specs.declared.since.Since.{Since}
 use Rattle.store_core.specs.declared.since.Since.TheVariants.{Gone, Unknown, Changes}
@@ -8,4 +7,4 @@ use Rattle.store_core.specs.declared.since.Since.TheVariants.{Gone, Unknown, Cha
 abbrev pub changes_since_view : Since → ChangesSince
 changes_since_view Gone = since.Gone
 changes_since_view Unknown = since.Unknown
-changes_since_view (Changes ns) = ReportedChanges (all_notes ns.older.now ns.newer.now)
+changes_since_view (Changes ns) = ReportedChanges ns

@@ -18,11 +18,12 @@ use Rattle.edit_ops.specs.Changes.{edited}
 use Rattle.edit_ops.specs.declared.change.Change.{Change}
 use Rattle.edit_ops.specs.declared.change.Change.TheVariants.{CreateDocument, RemoveDocument}
 use Rattle.edit_ops.specs.Notes.{Note, note_of}
-use Rattle.store_core.specs.declared.limits.TheConstants.{MAX_DOCUMENT_BYTES, MAX_BYTES_TOGETHER}
-use Rattle.store_core.specs.declared.limits.TheConstants.{MAX_DOCUMENTS}
+use Rattle.store_core.specs.declared.limits.TheConstants.{MAX_DOCUMENT_BYTES}
 use Rattle.store_core.specs.declared.refusal.StoreRefusal.{StoreRefusal}
 use Rattle.store_core.specs.declared.refusal.StoreRefusal.TheVariants.{ServiceTaken, TooLarge}
 use Rattle.store_core.specs.declared.refusal.StoreRefusal.TheVariants.{TooMany, StoreFull, NoNumber}
+use Rattle.store_core.specs.declared.refusal.StoreRefusal.TheVariants.{HomeTooMany, HomeFull}
+use Rattle.store_core.specs.HomeLimits.{documents_of_home, is_above}
 use Rattle.store_core.specs.State.{Document, State, new_document, document_after, retained_notes}
 use Rattle.store_core.specs.Contents.{StoredDocument, StoreContents}
 use Rattle.store_core.specs.ValidStates.{document_addresses}
@@ -65,9 +66,9 @@ change_kind _ = Edits
 
 abbrev pub state_after_by_kind : State → DocId → Change → ChangeKind → State
 state_after_by_kind m id change (Makes root) =
-    record { documents = m.documents ++ new_document id m.next root ∷ []; next = m.next + 1 }
+    record m { documents = m.documents ++ new_document id m.next root ∷ []; next = m.next + 1 }
 state_after_by_kind m id change Edits =
-    record {
+    record m {
       documents =
           with_document document_id
           (λ d. document_after m.next d (note_of d.now.tag m.next d.now.tree change)) m.documents
@@ -75,7 +76,7 @@ state_after_by_kind m id change Edits =
       next = m.next + 1;
     }
 state_after_by_kind m id change Removes =
-    record { documents = without_document document_id m.documents id; next = m.next + 1 }
+    record m { documents = without_document document_id m.documents id; next = m.next + 1 }
 
 -- the state after a change that is accepted
 abbrev pub state_after : State → DocId → Change → State
@@ -95,17 +96,17 @@ stored_document_after number change h =
 
 abbrev pub contents_after_by_kind : StoreContents → DocId → Change → ChangeKind → StoreContents
 contents_after_by_kind c id change (Makes root) =
-    record {
+    record c {
       documents = c.documents ++ record { id = id; tag = c.next; tree = root; notes = [] } ∷ [];
       next = c.next + 1;
     }
 contents_after_by_kind c id change Edits =
-    record {
+    record c {
       documents = with_document stored_id (stored_document_after c.next change) c.documents id;
       next = c.next + 1;
     }
 contents_after_by_kind c id change Removes =
-    record { documents = without_document stored_id c.documents id; next = c.next + 1 }
+    record c { documents = without_document stored_id c.documents id; next = c.next + 1 }
 
 -- the contents after a change that the store makes
 abbrev pub contents_after : StoreContents → DocId → Change → StoreContents
@@ -145,22 +146,43 @@ refusal_of_length t =
 
 -- a new document is one too many
 abbrev pub refusal_of_count : StoreContents → Bool → Option StoreRefusal
-refusal_of_count c is_new = refusal_if (is_new && nat_le MAX_DOCUMENTS (length c.documents)) TooMany
+refusal_of_count c is_new =
+    refusal_if (is_new && nat_le c.limits.documents (length c.documents)) TooMany
 
 -- all documents together are too long
 abbrev pub refusal_of_total : StoreContents → DocId → Tree → Option StoreRefusal
 refusal_of_total c id t =
-    refusal_if (nat_lt MAX_BYTES_TOGETHER (total_len_of_others c id + document_len t))
+    refusal_if (nat_lt c.limits.bytes (total_len_of_others c id + document_len t))
     (StoreFull (total_len_of_others c id + document_len t))
 
--- the first reason against a tree that the document would have; is_new says whether it isn't
--- stored yet
-abbrev pub refusal_of_tree : StoreContents → DocId → Bool → Tree → Option StoreRefusal
-refusal_of_tree c id is_new t =
+-- the other documents of the document's home
+abbrev pub others_of_home : StoreContents → DocId → List StoredDocument
+others_of_home c id = documents_of_home stored_id (without_document stored_id c.documents id) id.home
+
+abbrev pub home_len_of_others : StoreContents → DocId → ℕ
+home_len_of_others c id = sum_by (λ h. document_len h.tree) (others_of_home c id)
+
+-- the documents of the home are too many, or too long together
+abbrev pub refusal_of_home : StoreContents → DocId → Tree → Option StoreRefusal
+refusal_of_home c id t =
+    option_or (refusal_if (is_above c.limits.home_documents (length (others_of_home c id) + 1))
+    HomeTooMany)
+    (refusal_if (is_above c.limits.home_bytes (home_len_of_others c id + document_len t))
+    (HomeFull (home_len_of_others c id + document_len t)))
+
+-- the first reason against a tree that the document would have, whatever its home; is_new says
+-- whether it isn't stored yet
+abbrev pub refusal_in_store : StoreContents → DocId → Bool → Tree → Option StoreRefusal
+refusal_in_store c id is_new t =
     option_or (refusal_of_services c id t)
     (option_or (refusal_of_length t)
     (option_or (refusal_of_count c is_new)
     (refusal_of_total c id t)))
+
+-- the first reason against a tree that the document would have
+abbrev pub refusal_of_tree : StoreContents → DocId → Bool → Tree → Option StoreRefusal
+refusal_of_tree c id is_new t =
+    option_or (refusal_in_store c id is_new t) (refusal_of_home c id t)
 
 -- a reason against the number that the change would get: it doesn't fit 64 bits
 abbrev pub refusal_of_number : StoreContents → Option StoreRefusal

@@ -4,8 +4,10 @@ pub mod ChangesSince
 pub mod Contents
 pub mod DocumentChanges
 pub mod History
+pub mod HomeLimits
 pub mod Indexes
 pub mod PreparedChanges
+pub mod RestoredDocuments
 pub mod Since
 pub mod State
 pub mod StoreViews

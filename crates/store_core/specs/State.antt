@@ -1,5 +1,5 @@
--- The state of the abstract machine: every document with all its versions. RFC 4825, section 8.5:
--- each change gives a document a new entity tag.
+-- The state of the abstract machine: every document with all its versions, and the limits. RFC
+-- 4825, section 8.5: each change gives a document a new entity tag.
 use Rattle.std.specs.Prelude.{ℕ, Bool, ◌&&◌, nat_le, List, [], ◌∷◌, length, reverse, sum_by, Option}
 use Rattle.std.specs.Prelude.{None, Some, if◌then◌else◌, filter_map}
 use Rattle.xml_tree.specs.Tree.{Tree}
@@ -7,6 +7,8 @@ use Rattle.doc_names.specs.declared.doc_id.DocId.{DocId}
 use Rattle.edit_ops.specs.Changes.{edited}
 use Rattle.edit_ops.specs.Notes.{Note}
 use Rattle.edit_ops.specs.DiffOperations.{weight}
+use Rattle.store_core.specs.declared.limits.Limits.{Limits}
+use Rattle.store_core.specs.declared.limits.TheConstants.{DEFAULT_BYTES, DEFAULT_DOCUMENTS}
 use Rattle.store_core.specs.declared.limits.TheConstants.{MAX_NOTES, MAX_WEIGHT}
 
 -- a version: its etag, its tree, and the record of the change that made it from the version before
@@ -21,14 +23,30 @@ pub record Document : Type 0 where
   pub now : Version
   pub earlier : List Version
 
--- the documents in the order of their creation, and the number that the next change gets
+-- the documents in the order of their creation, the number that the next change gets, and the
+-- limits, which no change changes
 pub record State : Type 0 where
   pub documents : List Document
   pub next : ℕ
+  pub limits : Limits
 
--- the state without documents
+-- the limits where no others are given
+abbrev pub default_limits : Limits
+default_limits =
+    record {
+      documents = DEFAULT_DOCUMENTS;
+      bytes = DEFAULT_BYTES;
+      home_documents = None;
+      home_bytes = None;
+    }
+
+-- the state without documents, under these limits
+abbrev pub first_state_within : Limits → ℕ → State
+first_state_within limits first = record { documents = []; next = first; limits = limits }
+
+-- the state without documents, under the default limits
 abbrev pub first_state : ℕ → State
-first_state first = record { documents = []; next = first }
+first_state first = first_state_within default_limits first
 
 -- all versions of a document, newest first
 abbrev pub versions : Document → List Version

@@ -16,8 +16,10 @@ use Rattle.doc_names.specs.declared.doc_id.Home.{Home}
 use Rattle.doc_names.specs.declared.doc_id.Home.TheVariants.{Global, User}
 use Rattle.edit_ops.specs.Changes.{FitsTree, edited}
 use Rattle.edit_ops.specs.Notes.{Note, note_of}
-use Rattle.store_core.specs.declared.limits.TheConstants.{MAX_DOCUMENT_BYTES, MAX_BYTES_TOGETHER}
-use Rattle.store_core.specs.declared.limits.TheConstants.{MAX_DOCUMENTS}
+use Rattle.store_core.specs.declared.limits.Limits.{Limits}
+use Rattle.store_core.specs.declared.limits.TheConstants.{MAX_DOCUMENT_BYTES, MAX_BYTE_LIMIT}
+use Rattle.store_core.specs.declared.limits.TheConstants.{MAX_DOCUMENT_LIMIT}
+use Rattle.store_core.specs.HomeLimits.{IsWithin, documents_of_home}
 use Rattle.store_core.specs.State.{Document, State, Version, versions}
 
 -- ---- names
@@ -75,6 +77,22 @@ document_addresses XcapCaps t = []
 abbrev pub all_addresses : List Document → List (List ℕ)
 all_addresses ds = flat_map (λ d. document_addresses d.id.auid d.now.tree) ds
 
+-- ---- the limits
+
+-- numbers and lengths within the limits can be counted by a store
+abbrev pub AreCountable : Limits → Type 0
+AreCountable limits = (limits.documents ≤ MAX_DOCUMENT_LIMIT) × (limits.bytes ≤ MAX_BYTE_LIMIT)
+
+-- the documents of one home are no more, and have no more bytes together, than a home may have
+pub record IsWithinHomeLimits (limits : Limits) (ds : List Document) : Type 0 where
+  pub few : IsWithin limits.home_documents (length ds)
+  pub room : IsWithin limits.home_bytes (sum_by (λ d. document_len d.now.tree) ds)
+
+-- so are those of each home
+abbrev pub AreHomesWithinLimits : Limits → List Document → Type 0
+AreHomesWithinLimits limits ds =
+    (home : Home) → IsWithinHomeLimits limits (documents_of_home (λ d. d.id) ds home)
+
 -- ---- the whole state
 
 pub record IsValidState (state : State) : Type 0 where
@@ -84,5 +102,7 @@ pub record IsValidState (state : State) : Type 0 where
   -- no two versions have the same etag, in one document or in two
   pub tags : AreDistinct (flat_map (λ d. map (λ v. v.tag) (versions d)) state.documents)
   pub services : AreDistinct (all_addresses state.documents)
-  pub few : length state.documents ≤ MAX_DOCUMENTS
-  pub room : sum_by (λ d. document_len d.now.tree) state.documents ≤ MAX_BYTES_TOGETHER
+  pub countable : AreCountable state.limits
+  pub few : length state.documents ≤ state.limits.documents
+  pub room : sum_by (λ d. document_len d.now.tree) state.documents ≤ state.limits.bytes
+  pub homes : AreHomesWithinLimits state.limits state.documents

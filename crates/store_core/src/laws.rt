@@ -2,10 +2,11 @@
 //! represent, and a valid state stays valid.
 ghost use Rattle.std.specs.Prelude.{◌≡◌, ℕ, ◌<◌, ◌≤◌, List, Ok};
 ghost use Rattle.xml_tree.specs.Tree.{Tree};
-ghost use Rattle.store_core.specs.State.{State, first_state};
+ghost use Rattle.store_core.specs.State.{State, first_state, first_state_within};
+ghost use Rattle.store_core.specs.declared.limits.Limits.{Limits};
 ghost use Rattle.store_core.specs.Contents.{HasDocumentsOf, Represents, StoreContents};
 ghost use Rattle.store_core.specs.Indexes.{AreIndexTrees};
-ghost use Rattle.store_core.specs.ValidStates.{IsValidState};
+ghost use Rattle.store_core.specs.ValidStates.{AreCountable, IsValidState};
 ghost use Rattle.store_core.specs.DocumentChanges.{state_after, change_result, contents_after};
 ghost use Rattle.store_core.specs.DocumentChanges.{find_document};
 ghost use Rattle.store_core.specs.DocumentChanges.{stored_id, note_for};
@@ -31,9 +32,12 @@ pub fn states_stay_valid_after_each_change()
         → IsValidState m → IsAcceptable m id change → IsValidState (state_after m id change) }
 {}
 
-/// A law: the state without documents is valid, where the first number is 1 or more.
+/// A law: the state without documents is valid, where the first number is 1 or more and the limits
+/// are countable.
 pub fn the_first_state_is_valid()
     ensures first_state_valid { (first : ℕ) → 1 ≤ first → IsValidState (first_state first) }
+    ensures valid_within_limits { (limits : Limits) (first : ℕ) → 1 ≤ first
+        → AreCountable limits → IsValidState (first_state_within limits first) }
 {}
 
 /// A law: where contents represent a valid state, a change that the store makes suits the state.

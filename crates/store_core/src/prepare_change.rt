@@ -13,7 +13,8 @@ ghost use Rattle.edit_ops.specs.declared.change.Change.TheVariants as changes;
 ghost use Rattle.store_core.specs.declared.refusal.StoreRefusal.TheVariants as refusals;
 ghost use Rattle.store_core.specs.ChangePreconditions.{MayRequest};
 ghost use Rattle.store_core.specs.DocumentChanges.{Edits, change_kind, refusal_of_number};
-ghost use Rattle.store_core.specs.DocumentChanges.{refusal_of_tree};
+ghost use Rattle.store_core.specs.DocumentChanges.{refusal_of_home, refusal_of_tree};
+ghost use Rattle.store_core.specs.declared.limits.TheConstants.{MAX_BYTE_LIMIT};
 ghost use Rattle.store_core.specs.DocumentChanges.{change_result, contents_after, find_document};
 ghost use Rattle.store_core.specs.DocumentChanges.{stored_id, total_len_of_others};
 ghost use Rattle.doc_names.specs.Usages.{usage_of};
@@ -29,7 +30,8 @@ ghost use Rattle.store_core.specs.PreparedChanges.{IsReady, total_len};
 use crate::addresses::{added_addresses, addresses, first_added_number, removed_addresses};
 use crate::change_builder::{Outline, prepare_creation, prepare_edit, prepare_removal};
 use crate::entry::Entry;
-use crate::limits::{MAX_BYTES_TOGETHER, MAX_DOCUMENT_BYTES, MAX_DOCUMENTS};
+use crate::home_sums::{other_sums, refusal_from_sums};
+use crate::limits::MAX_DOCUMENT_BYTES;
 use crate::prepared_change::Prepared;
 use crate::put_lengths::{HEAD_LEN, document_len, measure_put, measure_root};
 use crate::refusal::StoreRefusal;
@@ -85,9 +87,10 @@ fn refusal_from_checks(
     len: usize,
     is_full: bool,
     others: u64,
+    most: u64,
 ) -> Option<StoreRefusal>
-    requires { others ≤ MAX_BYTES_TOGETHER }
-    ensures exact { result ≡ refusal_from_checks place len is_full others }
+    requires { others ≤ MAX_BYTE_LIMIT }
+    ensures exact { result ≡ refusal_from_checks place len is_full others most }
 {
     if let Some(place) = place {
         return Some(StoreRefusal::ServiceTaken(clash_at(place)));
@@ -99,7 +102,7 @@ fn refusal_from_checks(
         return Some(StoreRefusal::TooMany);
     }
     let total = others + len as u64;
-    if total > MAX_BYTES_TOGETHER {
+    if total > most {
         return Some(StoreRefusal::StoreFull(total));
     }
     None
@@ -125,8 +128,26 @@ impl Store {
             → result ≡ refusal_of_tree self.now.content doc.now true t }
     {
         let place = first_conflict(&self.services, uris, None);
-        let is_full = self.documents.len() >= MAX_DOCUMENTS;
-        refusal_from_checks(place, len, is_full, self.total)
+        let is_full = self.documents.len() >= self.limits.documents;
+        let most = self.limits.bytes;
+        if let Some(refusal) = refusal_from_checks(place, len, is_full, self.total, most) {
+            return Some(refusal);
+        }
+        self.refusal_of_home(doc, len)
+    }
+
+    // The first reason against a document of this length by what else its home has. It is looked
+    // for only where the documents of one home are limited.
+    fn refusal_of_home(&self, doc: &DocId, len: usize) -> Option<StoreRefusal>
+        requires { len ≤ MAX_DOCUMENT_BYTES }
+        ensures first_refusal { (t : Tree) → len ≡ document_len t
+            → result ≡ refusal_of_home self.now.content doc.now t }
+    {
+        if !self.limits.limits_homes() {
+            return None;
+        }
+        let others = other_sums(&self.documents, doc);
+        refusal_from_sums(self.limits, others, len)
     }
 
     // The entry of a stored document.
@@ -145,7 +166,7 @@ impl Store {
     fn total_without(&self, doc: &DocId) -> u64
         requires { IsSome (find_document stored_id self.now.content.documents doc.now) }
         ensures exact { result ≡ total_len_of_others self.now.content doc.now }
-        ensures is_small { result ≤ MAX_BYTES_TOGETHER }
+        ensures is_small { result ≤ MAX_BYTE_LIMIT }
         ensures completes_total { IsSomeAnd
             (find_document stored_id self.now.content.documents doc.now)
             (λ h. result + document_len h.tree ≡ total_len self.now.content) }
@@ -178,11 +199,18 @@ impl Store {
         };
         let place = first_conflict(&self.services, uris, Some(entry.created));
         let others = self.total - entry.len as u64;
-        refusal_from_checks(service_number(first, place), len, false, others)
+        let place = service_number(first, place);
+        if let Some(refusal) = refusal_from_checks(place, len, false, others, self.limits.bytes) {
+            return Some(refusal);
+        }
+        self.refusal_of_home(doc, len)
     }
 
-    // The outline of a new document with this tree, or the first reason against it.
-    fn outline_creation(
+    /// The outline of a new document with this tree, or the first reason against it.
+    ///
+    /// # Errors
+    /// `AllocError` when out of memory.
+    pub(crate) fn outline_creation(
         &self,
         doc: &DocId,
         root: &Element,

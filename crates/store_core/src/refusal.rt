@@ -9,10 +9,15 @@ pub enum StoreRefusal {
     ServiceTaken(Clash),
     /// The document would have this many bytes, more than `MAX_DOCUMENT_BYTES`.
     TooLarge(usize),
-    /// `MAX_DOCUMENTS` are stored.
+    /// As many documents are stored as the limits allow.
     TooMany,
-    /// All documents together would have this many bytes, more than `MAX_BYTES_TOGETHER`.
+    /// All documents together would have this many bytes, more than the limits allow.
     StoreFull(u64),
+    /// The user has as many documents as the limits allow one user.
+    HomeTooMany,
+    /// The user's documents together would have this many bytes, more than the limits allow one
+    /// user.
+    HomeFull(u64),
     /// The greatest number has been used.
     NoNumber,
 }

@@ -1,7 +1,6 @@
 //! The retained records of a document's changes (RFC 5874, section 3).
 ghost use Rattle.std.specs.Prelude.{◌≡◌, ◌+◌, ◌<◌, ◌≤◌, ◌++◌, ◌∷◌, [], true, false, length, IfOk};
 ghost use Rattle.edit_ops.specs.DiffOperations.{weight};
-ghost use Rattle.edit_ops.specs.RecordParts.{all_notes};
 ghost use Rattle.store_core.specs.State.{is_within_retention, retained_notes};
 ghost use Rattle.store_core.specs.inner.RecordRings.{IsRecordRing, counted_weight, optional_weight};
 
@@ -49,10 +48,10 @@ impl RetainedRecords {
 
     /// Borrows the records. Does not allocate.
     pub(crate) fn notes(&self) -> Notes<'_>
-        ensures same_records { all_notes result.older.now result.newer.now ≡ self.now }
+        ensures same_records { result ≡ self.now }
     {
         let (older, newer) = self.ring.as_slices();
-        Notes { older, newer }
+        Notes::from_pieces(older, newer)
     }
 
     /// Appends a record, and drops the oldest ones that are not retained with it. Does not

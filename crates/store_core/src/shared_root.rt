@@ -31,7 +31,7 @@ fn nameless_root(alloc: Global) -> SharedRoot
 }
 
 // A copy of a record's root; or that root, when out of memory.
-fn copy_root(alloc: Global, tree: RecordedTree) -> SharedRoot
+fn copy_or_share_root(alloc: Global, tree: RecordedTree) -> SharedRoot
     ensures same_root { root_view result ≡ tree }
 {
     match copy_tree(alloc, tree.root()) {
@@ -47,7 +47,7 @@ fn take_root(alloc: Global, tree: RecordedTree) -> SharedRoot
 {
     match tree.into_root() {
         Ok(root) => SharedRoot::Own(root),
-        Err(tree) => copy_root(alloc, tree),
+        Err(tree) => copy_or_share_root(alloc, tree),
     }
 }
 

@@ -3,7 +3,6 @@ ghost use Rattle.std.specs.Prelude.{◌≡◌, ◌==◌, ℕ, List, [], if◌the
 ghost use Rattle.std.specs.Option.{option_map};
 ghost use Rattle.doc_names.specs.declared.doc_id.DocId.{DocId};
 ghost use Rattle.edit_ops.specs.Notes.{Note};
-ghost use Rattle.edit_ops.specs.RecordParts.{all_notes};
 ghost use Rattle.store_core.specs.Contents.{Represents, StoreContents};
 ghost use Rattle.store_core.specs.History.{AreRecordsSince};
 ghost use Rattle.store_core.specs.ValidStates.{IsValidState};
@@ -19,7 +18,7 @@ use doc_names::DocId;
 use edit_ops::{EditNote, Notes};
 
 /// What became of a document since the version with an etag.
-#[derive(Clone, Copy)]
+#[derive(Drop)]
 pub enum Since<'a> {
     /// The document isn't stored.
     Gone,
@@ -41,34 +40,23 @@ fn records_from_tag(notes: &[EditNote], tag: u64) -> Option<&[EditNote]>
     None
 }
 
-// The records from this etag on as two slices, of which the older is empty.
+// The records from this etag on, of the newer ones.
 fn newer_records_from_tag(newer: &[EditNote], tag: u64) -> Option<Notes<'_>>
-    ensures exact { option_map (λ found. all_notes found.older.now found.newer.now) result
-        ≡ notes_from tag newer.now }
+    ensures exact { result ≡ notes_from tag newer.now }
 {
     match records_from_tag(newer, tag) {
-        Some(found) => Some(Notes {
-            older: &[],
-            newer: found,
-        }),
+        Some(found) => Some(Notes::from_pieces(&[], found)),
         None => None,
     }
 }
 
-// The records from this etag on, of records in two slices.
-fn records_from_tag_in<'a>(
-    older: &'a [EditNote],
-    newer: &'a [EditNote],
-    tag: u64,
-) -> Option<Notes<'a>>
-    ensures exact { option_map (λ found. all_notes found.older.now found.newer.now) result
-        ≡ notes_from tag (all_notes older.now newer.now) }
+// The records from this etag on, of all.
+fn records_from_tag_in<'a>(notes: &Notes<'a>, tag: u64) -> Option<Notes<'a>>
+    ensures exact { result ≡ notes_from tag notes.now }
 {
+    let (older, newer) = notes.pieces();
     match records_from_tag(older, tag) {
-        Some(found) => Some(Notes {
-            older: found,
-            newer,
-        }),
+        Some(found) => Some(Notes::from_pieces(found, newer)),
         None => newer_records_from_tag(newer, tag),
     }
 }
@@ -80,13 +68,10 @@ fn entry_changes_since(entry: &Entry, tag: u64) -> Since<'_>
         else changes_since_of (notes_from tag entry.now.notes)) }
 {
     if entry.tag == tag {
-        return Since::Changes(Notes {
-            older: &[],
-            newer: &[],
-        });
+        return Since::Changes(Notes::none());
     }
-    let Notes { older, newer } = entry.notes.notes();
-    match records_from_tag_in(older, newer, tag) {
+    let notes = entry.notes.notes();
+    match records_from_tag_in(&notes, tag) {
         Some(notes) => Since::Changes(notes),
         None => Since::Unknown,
     }

@@ -1,15 +1,17 @@
 //! The store of all documents.
-ghost use Rattle.std.specs.Prelude.{◌≡◌, ℕ, ◌+◌, ◌≤◌, [], length, sum_by, IfOk, IfSome, OnOk};
+ghost use Rattle.std.specs.Prelude.{◌≡◌, ℕ, ◌+◌, ◌≤◌, length, sum_by, IfOk, IfSome, OnOk};
 ghost use Rattle.std.specs.Option.{option_map};
 ghost use Rattle.xml_names.specs.declared.limits.TheConstants.{MAX_LEVELS};
 ghost use Rattle.xml_tree.specs.Tree.{Tree, height};
 ghost use Rattle.usage_docs.specs.Services.{document_len};
 ghost use Rattle.store_core.specs.State.{State};
-ghost use Rattle.store_core.specs.Contents.{Represents};
-ghost use Rattle.store_core.specs.ValidStates.{IsSoundDocumentFor, IsValidState};
+ghost use Rattle.store_core.specs.Contents.{Represents, first_contents, first_contents_within};
+ghost use Rattle.store_core.specs.declared.limits.TheConstants.{MAX_BYTE_LIMIT};
+ghost use Rattle.store_core.specs.ValidStates.{AreCountable, IsSoundDocumentFor, IsValidState};
 ghost use Rattle.doc_names.specs.Usages.{usage_of};
 ghost use Rattle.store_core.specs.DocumentChanges.{find_document, stored_id};
 
+use crate::limits::Limits;
 use crate::registry::Registry;
 use crate::step::{Documents, find_entry};
 use doc_names::DocId;
@@ -25,6 +27,7 @@ pub struct Store {
     pub(crate) alloc: Global,
     pub(crate) documents: Documents,
     pub(crate) services: Registry,
+    pub(crate) limits: Limits,
     pub(crate) last: u64,
     pub(crate) total: u64,
 }
@@ -39,13 +42,14 @@ impl Model for Store {
     ghost use Rattle.xml_tree.specs.inner.TreeCodes.{tree_code};
     ghost use Rattle.doc_names.specs.contracts.doc_id.DocId as d;
     ghost use Rattle.edit_ops.specs.contracts.change.Change as c;
+    ghost use Rattle.store_core.specs.contracts.limits.Limits as l;
 
     ghost Value = { StoreView };
 
-    ghost coded = { Prim.hlevel (codes, tree_code, d.the_row.coded, c.the_row.coded) };
+    ghost coded = { Prim.hlevel (codes, tree_code, d.the_row.coded, c.the_row.coded, l.the_row.coded) };
 
     ghost view = { λ s. record {
-      content = contents_view s.documents.entries s.last;
+      content = contents_view s.documents.entries s.limits s.last;
       room = record {
         documents = spare s.documents;
         services = spare s.services;
@@ -54,26 +58,48 @@ impl Model for Store {
     } };
 
     ghost invariant = { λ s.
-        IsConsistentStore s.documents.entries s.services.entries s.last s.total };
+        IsConsistentStore s.documents.entries s.services.entries s.limits s.last s.total };
 }
 
 impl Store {
-    /// A store without documents, whose first change gets the number `first`. Does not allocate.
+    /// A store without documents, under the default limits, whose first change gets the number
+    /// `first`. Does not allocate.
     ///
     /// # Errors
     /// None: it always returns a store.
     pub fn new(alloc: Global, first: u64) -> Result<Store, AllocError>
         requires { 1 ≤ first }
+        ensures begins_without_documents { IfOk result (λ s. s.content ≡ first_contents first) }
+    {
+        Store::within(alloc, first, Limits::usual())
+    }
+
+    /// A store without documents, under these limits, whose first change gets the number `first`.
+    /// Does not allocate.
+    ///
+    /// # Errors
+    /// None: it always returns a store.
+    pub fn within(alloc: Global, first: u64, limits: Limits) -> Result<Store, AllocError>
+        requires number_given { 1 ≤ first }
+        requires limits_countable { AreCountable limits }
         ensures begins_without_documents { IfOk result
-            (λ s. s.content ≡ record { documents = []; next = first }) }
+            (λ s. s.content ≡ first_contents_within limits first) }
     {
         Ok(Store {
             alloc,
             documents: IndexMap::new(alloc),
             services: IndexMap::new(alloc),
+            limits,
             last: first - 1,
             total: 0,
         })
+    }
+
+    /// The limits. Does not allocate.
+    pub fn limits(&self) -> Limits
+        ensures exact { result ≡ self.now.content.limits }
+    {
+        self.limits
     }
 
     /// The tree and the etag of a document: None exactly where it isn't stored. The tree is sound
@@ -105,9 +131,10 @@ impl Store {
         self.documents.len()
     }
 
-    /// The number of bytes of all printed documents. Does not allocate.
+    /// The number of bytes of all printed documents, at most `MAX_BYTE_LIMIT`. Does not allocate.
     pub fn total(&self) -> u64
         ensures exact { result ≡ sum_by (λ h. document_len h.tree) self.now.content.documents }
+        ensures stays_countable { result ≤ MAX_BYTE_LIMIT }
     {
         self.total
     }

@@ -15,6 +15,7 @@ use Rattle.xml_tree.specs.inner.Heights.{content_height-before}
 use Rattle.xml_tree.specs.inner.Print.{print_node}
 use Rattle.xml_tree.proofs.PrintedNodes.{print-nodes, no_nodes, some_nodes}
 use Rattle.tree_print.specs.declared.parts.Part.{Part}
+use Rattle.tree_print.specs.declared.parts.TheConstants.{CAPACITY}
 use Rattle.tree_print.specs.inner.Parts.{Opens, Pending, attr_pieces, content_pieces, decl_pieces, ending_print, node_pieces, part_pieces, part_print, text_pieces, total}
 use Rattle.tree_print.proofs.PrintLemmas.{ending_bare, ending_filled, letters_comment_end, letters_comment_start, letters_empty_end, letters_end_start, letters_header, letters_value_start}
 
@@ -213,12 +214,12 @@ levels_of_first (Elem e) ns = omega arith
 levels_of_first (Chars t) ns = omega arith
 levels_of_first (Comment x) ns = omega arith
 
-pub room_of_others : (nodes others : List Node) (n : Node) (taken : ℕ) → nodes ≡ n ∷ others → taken + (8 + 2 * content_height (content_of nodes)) ≤ 136 → taken + (8 + 2 * content_height (content_of others)) ≤ 136
+pub room_of_others : (nodes others : List Node) (n : Node) (taken : ℕ) → nodes ≡ n ∷ others → taken + (8 + 2 * content_height (content_of nodes)) ≤ CAPACITY → taken + (8 + 2 * content_height (content_of others)) ≤ CAPACITY
 room_of_others nodes others n taken is fits =
     let same = ap (λ (l : List Node). content_height (content_of l)) is in
     omega (arith, fits, same, levels_of_others n others)
 
-pub room_of_first : (nodes others : List Node) (n : Node) (taken mid : ℕ) → nodes ≡ n ∷ others → mid ≡ taken + 1 → taken + (8 + 2 * content_height (content_of nodes)) ≤ 136 → mid + 7 + 2 * node_height n ≤ 136
+pub room_of_first : (nodes others : List Node) (n : Node) (taken mid : ℕ) → nodes ≡ n ∷ others → mid ≡ taken + 1 → taken + (8 + 2 * content_height (content_of nodes)) ≤ CAPACITY → mid + 7 + 2 * node_height n ≤ CAPACITY
 room_of_first nodes others n taken mid is one fits =
     let same = ap (λ (l : List Node). content_height (content_of l)) is in
     omega (arith, fits, same, one, levels_of_first n others)

@@ -28,18 +28,19 @@ pub(crate) enum Part<'a> {
 }
 
 // How many parts there is room for: two for each open element, and those of one tag.
-const CAPACITY: usize = 136;
+pub(crate) const CAPACITY: usize = 136;
 
 /// The parts that are still to be printed. Contracts see what they print, in how many pieces at
 /// most, and how many they are.
 #[derive(Drop)]
 pub(crate) struct Parts<'a> {
-    stack: [Part<'a>; 136],
+    stack: [Part<'a>; CAPACITY],
     next: usize,
 }
 
 impl<'a> Model for Parts<'a> {
     ghost use Rattle.std.specs.Prelude.{◌≡◌, ◌≤◌, drop, length};
+    ghost use Rattle.tree_print.specs.declared.parts.TheConstants.{CAPACITY};
     ghost use Rattle.tree_print.specs.inner.Parts.{HaveRoom, Pending, pending};
 
     ghost Value = { Pending };
@@ -47,7 +48,7 @@ impl<'a> Model for Parts<'a> {
     ghost view = { λ p. pending (drop p.next p.stack) };
 
     ghost invariant = { λ p.
-        (p.next ≤ 136) × (length p.stack ≡ 136) × HaveRoom (drop p.next p.stack) };
+        (p.next ≤ CAPACITY) × (length p.stack ≡ CAPACITY) × HaveRoom (drop p.next p.stack) };
 }
 
 impl<'a> Parts<'a> {
@@ -64,7 +65,7 @@ impl<'a> Parts<'a> {
     /// Puts a part in front of the others.
     #[inline(always)]
     pub(crate) fn push(&mut self, part: Part<'a>)
-        requires { self.old.taken + part_room part ≤ 136 }
+        requires { self.old.taken + part_room part ≤ CAPACITY }
         ensures text_before { self.new.text ≡ part_print part.entry ++ self.old.text }
         ensures more_pieces { self.new.pieces ≡ part_pieces part.entry + self.old.pieces }
         ensures one_more { self.new.taken ≡ self.old.taken + 1 }
@@ -83,7 +84,7 @@ impl<'a> Parts<'a> {
         ensures fewer_pieces { MatchOption result (self.new.pieces ≡ self.old.pieces)
             (λ part. self.old.pieces ≡ part_pieces part + self.new.pieces) }
         ensures has_room { MatchOption result (self.new.text ≡ [])
-            (λ part. self.new.taken + part_room part ≤ 136) }
+            (λ part. self.new.taken + part_room part ≤ CAPACITY) }
     {
         if self.next == CAPACITY {
             return None;

@@ -9,6 +9,7 @@ ghost use Rattle.xml_tree.specs.Print.{print, print_content};
 ghost use Rattle.xml_tree.specs.Tree.{content_height, height};
 ghost use Rattle.xml_tree.specs.inner.Print.{print_node};
 ghost use Rattle.tree_print.specs.PrintPieces.{print_of};
+ghost use Rattle.tree_print.specs.declared.parts.TheConstants.{CAPACITY};
 ghost use Rattle.tree_print.specs.inner.Escapes.{escaped_char};
 ghost use Rattle.tree_print.specs.inner.Parts.{Opens, attr_pieces, decl_pieces, element_pieces};
 ghost use Rattle.tree_print.specs.inner.Parts.{ending_pieces, ending_print, node_pieces};
@@ -26,7 +27,7 @@ use xml_tree::{Element, Node};
 
 // A text that has a reference.
 fn open_broken<'a>(parts: &mut Parts<'a>, text: &'a str, place: EscapeContext) -> &'a str
-    requires { parts.old.taken + 2 ≤ 136 }
+    requires { parts.old.taken + 2 ≤ CAPACITY }
     ensures opens { Opens (flat_map (escaped_char place) (chars text.now))
         (text_pieces (length text.now)) parts.old result.now parts.new }
 {
@@ -41,7 +42,7 @@ fn open_broken<'a>(parts: &mut Parts<'a>, text: &'a str, place: EscapeContext) -
 
 // A text, of which most contain nothing that is printed as a reference.
 fn open_text<'a>(parts: &mut Parts<'a>, text: &'a str, place: EscapeContext) -> &'a str
-    requires { parts.old.taken + 2 ≤ 136 }
+    requires { parts.old.taken + 2 ≤ CAPACITY }
     ensures opens { Opens (flat_map (escaped_char place) (chars text.now))
         (text_pieces (length text.now)) parts.old result.now parts.new }
 {
@@ -52,7 +53,7 @@ fn open_text<'a>(parts: &mut Parts<'a>, text: &'a str, place: EscapeContext) -> 
 }
 
 fn open_name<'a>(parts: &mut Parts<'a>, name: &'a Name) -> &'a str
-    requires { parts.old.taken + 2 ≤ 136 }
+    requires { parts.old.taken + 2 ≤ CAPACITY }
     ensures opens { Opens (print_name name.now) 3 parts.old result.now parts.new }
 {
     if is_empty_prefix(&name.prefix) {
@@ -64,7 +65,7 @@ fn open_name<'a>(parts: &mut Parts<'a>, name: &'a Name) -> &'a str
 }
 
 fn open_end_tag<'a>(parts: &mut Parts<'a>, name: &'a Name) -> &'a str
-    requires { parts.old.taken + 3 ≤ 136 }
+    requires { parts.old.taken + 3 ≤ CAPACITY }
     ensures opens { Opens (end_tag_text name.now) 5 parts.old result.now parts.new }
 {
     parts.push(Part::Plain(">"));
@@ -74,7 +75,7 @@ fn open_end_tag<'a>(parts: &mut Parts<'a>, name: &'a Name) -> &'a str
 
 // Pushes `=` and a value in quotes.
 fn push_quoted_value<'a>(parts: &mut Parts<'a>, value: &'a Text)
-    requires { parts.old.taken + 4 ≤ 136 }
+    requires { parts.old.taken + 4 ≤ CAPACITY }
     ensures text_before { parts.new.text ≡ (61 ∷ quoted_value value.now) ++ parts.old.text }
     ensures more_pieces { parts.new.pieces
         ≡ 2 + text_pieces (byte_len value.now) + parts.old.pieces }
@@ -86,7 +87,7 @@ fn push_quoted_value<'a>(parts: &mut Parts<'a>, value: &'a Text)
 }
 
 fn open_decl<'a>(parts: &mut Parts<'a>, decl: &'a Decl) -> &'a str
-    requires { parts.old.taken + 5 ≤ 136 }
+    requires { parts.old.taken + 5 ≤ CAPACITY }
     ensures opens { Opens (print_decl decl.now) (decl_pieces decl.now)
         parts.old result.now parts.new }
 {
@@ -99,7 +100,7 @@ fn open_decl<'a>(parts: &mut Parts<'a>, decl: &'a Decl) -> &'a str
 }
 
 fn open_attr<'a>(parts: &mut Parts<'a>, attr: &'a Attr) -> &'a str
-    requires { parts.old.taken + 5 ≤ 136 }
+    requires { parts.old.taken + 5 ≤ CAPACITY }
     ensures opens { Opens (print_attr attr.now) (attr_pieces attr.now)
         parts.old result.now parts.new }
 {
@@ -110,7 +111,7 @@ fn open_attr<'a>(parts: &mut Parts<'a>, attr: &'a Attr) -> &'a str
 
 // What follows the attributes.
 fn open_ending<'a>(parts: &mut Parts<'a>, element: &'a Element) -> &'a str
-    requires { parts.old.taken + 1 + nodes_room (content_height element.now.content) ≤ 136 }
+    requires { parts.old.taken + 1 + nodes_room (content_height element.now.content) ≤ CAPACITY }
     ensures opens { Opens (ending_print element.now) (ending_pieces element.now)
         parts.old result.now parts.new }
 {
@@ -124,7 +125,7 @@ fn open_ending<'a>(parts: &mut Parts<'a>, element: &'a Element) -> &'a str
 }
 
 fn open_attrs<'a>(parts: &mut Parts<'a>, attrs: &'a [Attr], element: &'a Element) -> &'a str
-    requires { parts.old.taken + 1 + nodes_room (content_height element.now.content) ≤ 136 }
+    requires { parts.old.taken + 1 + nodes_room (content_height element.now.content) ≤ CAPACITY }
     ensures opens { Opens (flat_map print_attr attrs.now ++ ending_print element.now)
         (total attr_pieces attrs.now + ending_pieces element.now)
         parts.old result.now parts.new }
@@ -137,7 +138,7 @@ fn open_attrs<'a>(parts: &mut Parts<'a>, attrs: &'a [Attr], element: &'a Element
 }
 
 fn open_decls<'a>(parts: &mut Parts<'a>, decls: &'a [Decl], element: &'a Element) -> &'a str
-    requires { parts.old.taken + 1 + nodes_room (content_height element.now.content) ≤ 136 }
+    requires { parts.old.taken + 1 + nodes_room (content_height element.now.content) ≤ CAPACITY }
     ensures opens { Opens
         (flat_map print_decl decls.now
         ++ (flat_map print_attr element.now.attrs ++ ending_print element.now))
@@ -153,7 +154,7 @@ fn open_decls<'a>(parts: &mut Parts<'a>, decls: &'a [Decl], element: &'a Element
 }
 
 fn open_element<'a>(parts: &mut Parts<'a>, element: &'a Element) -> &'a str
-    requires { parts.old.taken + 1 + nodes_room (content_height element.now.content) ≤ 136 }
+    requires { parts.old.taken + 1 + nodes_room (content_height element.now.content) ≤ CAPACITY }
     ensures opens { Opens (print element.now) (element_pieces element.now)
         parts.old result.now parts.new }
 {
@@ -163,7 +164,7 @@ fn open_element<'a>(parts: &mut Parts<'a>, element: &'a Element) -> &'a str
 }
 
 fn open_comment<'a>(parts: &mut Parts<'a>, text: &'a Text) -> &'a str
-    requires { parts.old.taken + 2 ≤ 136 }
+    requires { parts.old.taken + 2 ≤ CAPACITY }
     ensures opens { Opens (print_comment text.now) 3 parts.old result.now parts.new }
 {
     parts.push(Part::Plain("-->"));
@@ -172,7 +173,7 @@ fn open_comment<'a>(parts: &mut Parts<'a>, text: &'a Text) -> &'a str
 }
 
 fn open_node<'a>(parts: &mut Parts<'a>, node: &'a Node) -> &'a str
-    requires { parts.old.taken + 7 + 2 * node_height node.now ≤ 136 }
+    requires { parts.old.taken + 7 + 2 * node_height node.now ≤ CAPACITY }
     ensures opens { Opens (print_node node.now) (node_pieces node.now)
         parts.old result.now parts.new }
 {
@@ -184,7 +185,7 @@ fn open_node<'a>(parts: &mut Parts<'a>, node: &'a Node) -> &'a str
 }
 
 fn open_nodes<'a>(parts: &mut Parts<'a>, nodes: &'a [Node]) -> &'a str
-    requires { parts.old.taken + nodes_room (content_height (content_of nodes.now)) ≤ 136 }
+    requires { parts.old.taken + nodes_room (content_height (content_of nodes.now)) ≤ CAPACITY }
     ensures opens { Opens (print_content (content_of nodes.now))
         (1 + total node_pieces nodes.now) parts.old result.now parts.new }
 {
@@ -196,7 +197,7 @@ fn open_nodes<'a>(parts: &mut Parts<'a>, nodes: &'a [Node]) -> &'a str
 }
 
 fn open<'a>(parts: &mut Parts<'a>, part: Part<'a>) -> &'a str
-    requires { parts.old.taken + part_room part ≤ 136 }
+    requires { parts.old.taken + part_room part ≤ CAPACITY }
     ensures opens { Opens (part_print part.entry) (part_pieces part.entry)
         parts.old result.now parts.new }
 {

@@ -1,2 +1,3 @@
 pub mod RecordedRequests
 pub mod SameChanges
+pub mod SameDocuments

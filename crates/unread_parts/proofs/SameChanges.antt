@@ -26,7 +26,7 @@ use Rattle.doc_names.specs.declared.doc_id.Auid.{Auid}
 use Rattle.doc_names.specs.declared.doc_id.Home.{Home}
 use Rattle.doc_names.specs.declared.doc_id.Home.TheVariants.{Global, User}
 use Rattle.http_wire.specs.Fields.{same_ignoring_case}
-use Rattle.reply_text.specs.ReplyHeads.{media_type}
+use Rattle.reply_text.specs.MediaTypes.{media_type}
 use Rattle.reply_text.specs.declared.media_types.MediaType.{MediaType}
 use Rattle.request_checks.specs.Conditions.{HasOutcome, outcome_reply}
 use Rattle.request_checks.specs.Fields.{IsConditionsReading}

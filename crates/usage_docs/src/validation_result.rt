@@ -217,7 +217,7 @@ fn walk_node<'a>(
         (clash_scan passed.old found.old.clash) (clash_scan passed.new found.new.clash) }
 {
     match node {
-        Node::Elem(child_element) => walk_child(
+        Node::Elem(child_element) => validate_child(
             alloc,
             row,
             scope,
@@ -235,7 +235,7 @@ fn walk_node<'a>(
 
 // Adds what is found in a child after the children that were passed.
 #[cycle(walk)]
-fn walk_child<'a>(
+fn validate_child<'a>(
     alloc: Global,
     row: ElementKind,
     scope: &LinkedScope<'_>,

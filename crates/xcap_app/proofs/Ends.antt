@@ -33,7 +33,7 @@ use Rattle.xcap_app.specs.TextVerdicts.{IsTreeVerdict, IsTextVerdict, refusal_of
 use Rattle.xcap_app.specs.declared.command.Command.{Command}
 use Rattle.xcap_app.specs.declared.command.Command.TheVariants.{Replay, Serve, Keep, Host, Check, Sample, Fetch, Put, Delete, Follow}
 use Rattle.xcap_app.specs.declared.command_line.CommandLine.{CommandLine}
-use Rattle.xcap_app.specs.declared.command_line.CommandLine.TheVariants.{Runs, BadHost, Unknown}
+use Rattle.xcap_app.specs.declared.command_line.CommandLine.TheVariants.{Runs, BadHost, NoCommand}
 use Rattle.xcap_app.specs.declared.exit.Exit.{Exit}
 use Rattle.xcap_app.specs.declared.exit.Exit.TheVariants.{Done, Usage, InputFailed, OutputFailed, NetworkFailed, Refused, Client, BadJournal, BadHostWords, OutOfMemory}
 use Rattle.xcap_app.specs.declared.refusal.Refusal.{Refusal}
@@ -84,7 +84,7 @@ module _ {W : Type 0} (Keeps : List Edit → W → W → Type 0) (first : ℕ) w
 
   -- memory ran out before anything was done
   pub ran_out : (command : CommandLine) (port : StreamState) (hall : HallState) (peer input output errors : StreamState) (w : W) → RunsCommand Keeps first command OutOfMemory (state_of port hall peer input output errors w) (state_of port hall peer input output errors w)
-  ran_out Unknown port hall peer input output errors w = (inr refl, refl)
+  ran_out NoCommand port hall peer input output errors w = (inr refl, refl)
   ran_out (BadHost fault) port hall peer input output errors w = (inr refl, refl)
   ran_out (Runs (Host address root options)) port hall peer input output errors w = (refl, refl, refl, refl, refl)
   ran_out (Runs (Replay root)) port hall peer input output errors w = (refl, refl, refl, refl, refl)
@@ -100,9 +100,9 @@ module _ {W : Type 0} (Keeps : List Edit → W → W → Type 0) (first : ℕ) w
 
   -- there are no words, since memory ran out for them
   pub ran_none : {A : Type 0} (parse : A → CommandLine) (words : Option A) (told : Exit) (s : RunState W) → words ≡ None → IsReportedAs OutOfMemory told
-      → RunsCommand Keeps first (option_map_or parse words Unknown) told s s
+      → RunsCommand Keeps first (option_map_or parse words NoCommand) told s s
   ran_none {A} parse words told s none (inl out) =
-      subst (λ (w : Option A). RunsCommand Keeps first (option_map_or parse w Unknown) told s s) (sym none) (inr out, refl)
+      subst (λ (w : Option A). RunsCommand Keeps first (option_map_or parse w NoCommand) told s s) (sym none) (inr out, refl)
   ran_none parse words told s none (inr lacking) = absurd lacking.0
 
   -- an input that was refused, where memory ran out for the message
@@ -196,7 +196,7 @@ module _ {W : Type 0} (Keeps : List Edit → W → W → Type 0) (first : ℕ) w
   unspelled_refused exit is (inr out) = subst HasAllocatedMessage out is
 
   ran_refused : (command : CommandLine) (exit : Exit) (old new : RunState W) → HasAllocatedMessage exit → RunsCommand Keeps first command exit old new → RunsCommand Keeps first command OutOfMemory old new
-  ran_refused Unknown exit old new is r = absurd (unspelled_refused exit is r.0)
+  ran_refused NoCommand exit old new is r = absurd (unspelled_refused exit is r.0)
   ran_refused (BadHost fault) exit old new is r = (inr refl, r.1)
   ran_refused (Runs (Host address root options)) exit old new is r = absurd (host_refused (host_arguments address root options first) exit (host_part old) (host_part new) is r.0)
   ran_refused (Runs (Replay root)) exit old new is r = absurd (replay_refused root exit (replay_part old) (replay_part new) is r.0)

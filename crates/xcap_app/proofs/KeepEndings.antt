@@ -21,7 +21,7 @@ use Rattle.http_serve.specs.declared.accept_loop.ServeSummary.{ServeSummary}
 use Rattle.http_serve.specs.declared.accept_loop.StopReason.TheVariants.{PortFailed}
 use Rattle.edit_journal.specs.LoggedMachines.{LoggedMachineState, HoldsLog, LoggedStep}
 use Rattle.edit_journal.specs.LoggedRequests.{AcceptsRequest}
-use Rattle.store_core.specs.Contents.{StoreContents, contents_of}
+use Rattle.store_core.specs.Contents.{StoreContents, contents_of, first_contents}
 use Rattle.store_core.specs.State.{State, first_state}
 use Rattle.store_core.proofs.KeptAfter.{kept-first}
 use Rattle.xcap_machine.specs.Answers.{reply_only}
@@ -41,10 +41,10 @@ use Rattle.xcap_app.proofs.Streams.{adds_some, wrote}
 -- ---- the old journal
 
 -- a server without documents stands for no requests
-pub stands_for_none : (s : ServerState) → s.content ≡ record { documents = []; next = 1 } → ResultsFromRequests s []
+pub stands_for_none : (s : ServerState) → s.content ≡ first_contents 1 → ResultsFromRequests s []
 stands_for_none s empty = record { state = first_state 1; kept = kept-first 1 (omega arith); redone = refl; stands = empty }
 
-module _ (input input' : StreamState) (journal journal' : JournalState) (s s' : ServerState) (empty : s.content ≡ record { documents = []; next = 1 }) (about : s'.root ≡ s.root) where
+module _ (input input' : StreamState) (journal journal' : JournalState) (s s' : ServerState) (empty : s.content ≡ first_contents 1) (about : s'.root ≡ s.root) where
   abbrev Restarted : Result LogState RestartFault → Type 0
   Restarted result = RestartsReplayer ResultsFromRequests RefusesRequest (record { source = input; journal = journal; replayer = s }) (record { source = input'; journal = journal'; replayer = s' }) result
 

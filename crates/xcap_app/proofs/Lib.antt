@@ -1,6 +1,7 @@
 pub mod Documents
 pub mod Ends
 pub mod HostEndings
+pub mod HostLimits
 pub mod KeepEndings
 pub mod KnownConnections
 pub mod Pairs

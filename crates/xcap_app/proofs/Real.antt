@@ -43,7 +43,7 @@ use Rattle.xcap_app.specs.TextVerdicts.{IsTextVerdict}
 use Rattle.xcap_app.specs.SampleCommand.{summary_text}
 use Rattle.xcap_app.specs.declared.command.Command.TheVariants.{Replay, Serve, Keep, Host, Check, Sample, Fetch, Put, Delete, Follow}
 use Rattle.xcap_app.specs.declared.command_line.CommandLine.{CommandLine}
-use Rattle.xcap_app.specs.declared.command_line.CommandLine.TheVariants.{Runs, BadHost, Unknown}
+use Rattle.xcap_app.specs.declared.command_line.CommandLine.TheVariants.{Runs, BadHost, NoCommand}
 use Rattle.xcap_app.specs.declared.host_options.HostFault.{HostFault}
 use Rattle.xcap_app.specs.declared.exit.Exit.{Exit}
 use Rattle.xcap_app.specs.declared.exit.Exit.TheVariants.{Done, Usage, InputFailed, OutputFailed, NetworkFailed, Refused, Client, BadJournal, BadHostWords, OutOfMemory}
@@ -171,10 +171,10 @@ module _ {W : Type 0} (Keeps : List Edit → W → W → Type 0) where
   abbrev with_errors : RunState W → StreamState → RunState W
   with_errors state errors = record state { errors = errors }
 
-  hall_done : (arguments : HostArguments) (old new : RunState W) → HostsCommand Keeps arguments Done (host_part old) (host_part new) → AnswersHall Keeps arguments.first arguments.root old new
+  hall_done : (arguments : HostArguments) (old new : RunState W) → HostsCommand Keeps arguments Done (host_part old) (host_part new) → AnswersHall Keeps arguments old new
   hall_done arguments old new (served, hosts, complete) =
       let v = hosts.serves in
-      record { state = hosts.state; kept = hosts.kept; exchanges = v.more; steps = v.steps; each = v.served.each; notified = v.kept }
+      record { state = hosts.state; kept = hosts.kept; exchanges = v.more; steps = v.steps; each = v.served.each; notified = v.kept; free = hosts.free; as_many = hosts.as_many; all_free = hosts.all_free; seats = hosts.seats; same_number = hosts.same_number; in_turns = hosts.in_turns }
 
   never_done : (fault : RestartFault) {X : Type 0} → IsReportedAs (exit_of_restart fault) Done → X
   never_done fault (inl same) = not_done fault (sym same)
@@ -225,11 +225,11 @@ module _ {W : Type 0} (Keeps : List Edit → W → W → Type 0) where
 
   by_command : (first : ℕ) (command : CommandLine) (old new : RunState W) (errors' : StreamState) → old.port.port.begun ≡ no_connections → old.input.inward.given ≡ [] → old.output.taken ≡ [] → new.port.port.to_come ≡ None
       → RunsCommand Keeps first command Done old new → DoesCommand Keeps first command old (with_errors new errors')
-  by_command first Unknown old new errors' none_yet none_given none_taken untold r = ⊎_elim never_usage never_out r.0
+  by_command first NoCommand old new errors' none_yet none_given none_taken untold r = ⊎_elim never_usage never_out r.0
   by_command first (BadHost fault) old new errors' none_yet none_given none_taken untold r = ⊎_elim (never_bad_host fault) never_out r.0
   by_command first (Runs (Host address root options)) old new errors' none_yet none_given none_taken untold r =
       let a = hall_done (host_arguments address root options first) old new r.0 in
-      record { state = a.state; kept = a.kept; exchanges = a.exchanges; steps = a.steps; each = a.each; notified = a.notified }
+      record { state = a.state; kept = a.kept; exchanges = a.exchanges; steps = a.steps; each = a.each; notified = a.notified; free = a.free; as_many = a.as_many; all_free = a.all_free; seats = a.seats; same_number = a.same_number; in_turns = a.in_turns }
   by_command first (Runs (Replay root)) old new errors' none_yet none_given none_taken untold r = input_done root old (with_errors new errors') none_given none_taken r.0
   by_command first (Runs (Serve address root count)) old new errors' none_yet none_given none_taken untold r = port_done (service_arguments address root count) old (with_errors new errors') none_yet none_taken untold r.0
   by_command first (Runs (Keep address root count)) old new errors' none_yet none_given none_taken untold r = kept_done (service_arguments address root count) old (with_errors new errors') none_yet none_given none_taken untold r.0

@@ -1,6 +1,6 @@
 -- How `serve` and `replay` end, by what the port, the input and the output did.
-use Rattle.std.proofs.Common.{◌≡◌, ℕ, List, [], Option, inl, inr, refl, sym, subst, arith}
-use Rattle.store_core.specs.Contents.{Represents, StoreContents as Content}
+use Rattle.std.proofs.Common.{◌≡◌, ℕ, List, Option, inl, inr, refl, sym, subst, arith}
+use Rattle.store_core.specs.Contents.{Represents, StoreContents as Content, first_contents}
 use Rattle.store_core.specs.ValidStates.{IsValidState}
 use Rattle.store_core.specs.State.{State, first_state}
 use Rattle.store_core.proofs.KeptAfter.{kept-first}
@@ -28,11 +28,11 @@ use Rattle.xcap_app.specs.declared.exit.Exit.{Exit}
 use Rattle.xcap_app.specs.declared.exit.Exit.TheVariants.{Done, Usage, InputFailed, OutputFailed, NetworkFailed, Refused, Client, BadJournal, BadHostWords, OutOfMemory}
 
 -- the contents of a new server represent the state without documents
-begun : (c : Content) → c ≡ record { documents = []; next = 1 } → Represents c (first_state 1)
+begun : (c : Content) → c ≡ first_contents 1 → Represents c (first_state 1)
 begun c e = subst (λ d. Represents d (first_state 1)) (sym e) refl
 
 -- and that state is valid
-pub stands_first : (c : Content) → c ≡ record { documents = []; next = 1 } → IsValidState (first_state 1) × Represents c (first_state 1)
+pub stands_first : (c : Content) → c ≡ first_contents 1 → IsValidState (first_state 1) × Represents c (first_state 1)
 stands_first c is_new = (kept-first 1 (omega arith), begun c is_new)
 
 -- a step of both machines is one of the whole
@@ -93,7 +93,7 @@ module _ {W : Type 0} (Keeps : List Edit → W → W → Type 0) where
   by_ending root WriteFailed old new s = s
 
   -- what a new server did with an input
-  pub replayed : (root : List ℕ) (ended : CloseReason) (exit : Exit) (before : Content) (old new : ReplayState W) → before ≡ record { documents = []; next = 1 }
+  pub replayed : (root : List ℕ) (ended : CloseReason) (exit : Exit) (before : Content) (old new : ReplayState W) → before ≡ first_contents 1
       → ((m : State) → IsValidState m → Represents before m → ServesInput Keeps root m ended old new) → exit ≡ exit_of_connection ended
       → ReplaysCommand Keeps root exit old new
   replayed root ended exit before old new is_new serves ends =

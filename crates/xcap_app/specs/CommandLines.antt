@@ -5,7 +5,7 @@ use Rattle.std.specs.Str.{bytes_eq}
 use Rattle.xcap_app.specs.Commands.{parse_command}
 use Rattle.xcap_app.specs.HostWords.{host_of_words}
 use Rattle.xcap_app.specs.declared.command_line.CommandLine.{CommandLine}
-use Rattle.xcap_app.specs.declared.command_line.CommandLine.TheVariants.{Runs, Unknown}
+use Rattle.xcap_app.specs.declared.command_line.CommandLine.TheVariants.{Runs, NoCommand}
 
 -- the words after the first, where that is `host`
 abbrev pub words_after_host : List (List ℕ) → Option (List (List ℕ))
@@ -14,7 +14,7 @@ words_after_host (name ∷ words) = if bytes_eq name (codes "host") then Some wo
 
 -- the command of words of which the first isn't `host`
 abbrev pub other_command : List (List ℕ) → CommandLine
-other_command words = option_map_or (λ command. Runs command) (parse_command words) Unknown
+other_command words = option_map_or (λ command. Runs command) (parse_command words) NoCommand
 
 -- what words spell
 abbrev pub parse_words : List (List ℕ) → CommandLine

@@ -15,7 +15,7 @@ use Rattle.xcap_app.specs.declared.command.Command.TheVariants.{Replay, Serve, K
 use Rattle.xcap_app.specs.declared.command.Command.TheVariants.{Fetch, Put, Delete, Follow}
 use Rattle.xcap_app.specs.declared.command.Command.TheVariants.{Host}
 use Rattle.xcap_app.specs.declared.command_line.CommandLine.{CommandLine}
-use Rattle.xcap_app.specs.declared.command_line.CommandLine.TheVariants.{Runs, BadHost, Unknown}
+use Rattle.xcap_app.specs.declared.command_line.CommandLine.TheVariants.{Runs, BadHost, NoCommand}
 use Rattle.xcap_app.specs.declared.exit.Exit.{Exit}
 use Rattle.xcap_app.specs.declared.exit.Exit.TheVariants.{Usage, BadHostWords, OutOfMemory}
 use Rattle.xcap_app.specs.declared.host_options.HostOptions.{HostOptions}
@@ -37,7 +37,7 @@ module _ {W : Type 0} (Keeps : List Edit → W → W → Type 0) (first : ℕ) w
   -- What was done, and that all else is unchanged. Where the words spell no command, memory may
   -- run out before that is known.
   abbrev pub RunsCommand : CommandLine → Exit → RunState W → RunState W → Type 0
-  RunsCommand Unknown exit old new = ((exit ≡ Usage) ⊎ (exit ≡ OutOfMemory)) × (new ≡ old)
+  RunsCommand NoCommand exit old new = ((exit ≡ Usage) ⊎ (exit ≡ OutOfMemory)) × (new ≡ old)
   RunsCommand (BadHost fault) exit old new =
       ((exit ≡ BadHostWords fault) ⊎ (exit ≡ OutOfMemory)) × (new ≡ old)
   RunsCommand (Runs (Replay root)) exit old new =

@@ -3,14 +3,16 @@ use Rattle.std.specs.Prelude.{◌≡◌, ℕ, ◌⊎◌, List, [], ◌++◌, cod
 use Rattle.edit_ops.specs.declared.edit.Edit.{Edit}
 use Rattle.halls.specs.HallState.{HallState, with_fault}
 use Rattle.hall_serve.specs.Seats.{MatchesSeats, SeatState, seat_at}
-use Rattle.hall_serve.specs.ServedHalls.{AnswersKnocks, HasHallStop, ServesOn}
+use Rattle.hall_serve.specs.ServedHalls.{AnswersKnocks, HasHallStop, MakesTurns, ServesOn}
 use Rattle.hall_serve.specs.declared.serve.HallStop.{HallStop}
 use Rattle.hall_serve.specs.declared.serve.HallStop.TheVariants.{HallFailed}
 use Rattle.hall_serve.specs.declared.serve.HallSummary.{HallSummary}
 use Rattle.http_serve.specs.ReplyBytes.{StepsInBytes}
+use Rattle.store_core.specs.Contents.{contents_of}
 use Rattle.store_core.specs.ValidStates.{IsValidState}
-use Rattle.store_core.specs.State.{State, first_state}
+use Rattle.store_core.specs.State.{State, first_state_within}
 use Rattle.xcap_machine.specs.Machine.{ValidStep}
+use Rattle.xcap_machine.specs.ServerStates.{ServerState}
 use Rattle.xml_names.specs.Limits.{u64_max}
 use Rattle.xcap_app.specs.ErrorMessages.{WritesMessage}
 use Rattle.xcap_app.specs.RunStates.{HostState}
@@ -34,6 +36,10 @@ listening_line address = codes "listening " ++ (address ++ codes "\n")
 abbrev pub with_hall_address : HallState → List ℕ → HallState
 with_hall_address hall address = record hall { listening = Some address }
 
+-- a server of this root, with the documents of this state
+abbrev pub server_of : List ℕ → State → ServerState
+server_of root state = record { root = root; content = contents_of state }
+
 -- no wait and no accept failed
 abbrev pub IsUnfailedStop : HallStop → Type 0
 IsUnfailedStop HallFailed = ⊥
@@ -41,10 +47,31 @@ IsUnfailedStop _ = Unit {0}
 
 -- W is the type of the watchers, and `Keeps` relates them before and after such changes.
 module _ {W : Type 0} (Keeps : List Edit → W → W → Type 0) where
+  -- The connections were served in turns (`MakesTurns`): from these free seats on, and from the
+  -- state on that has no documents, this first number and these limits, to these seats and this
+  -- state.
+  abbrev pub HostsInTurns : HostArguments → List (Option SeatState) → List (Option SeatState)
+      → State → HostState W → HostState W → Type 0
+  HostsInTurns arguments free seats state old new =
+      (made : ℕ) × MakesTurns Keeps u64_max made
+      (record {
+        machine = server_of arguments.root
+            (first_state_within arguments.options.limits arguments.first);
+        hall = with_hall_address old.hall arguments.address;
+        seats = free;
+        watchers = old.watchers;
+      })
+      (record {
+        machine = server_of arguments.root state;
+        hall = new.hall;
+        seats = seats;
+        watchers = new.watchers;
+      })
+
   -- The hall listens at the address, which was told on the stream for errors, and the connections
   -- that came were served, as many at once as there are seats, by the machine of this root from the
-  -- state on that has no documents and this first number, through valid states; the watchers were
-  -- notified of the changes.
+  -- state on that has no documents, this first number and the limits of the options, through valid
+  -- states; the watchers were notified of the changes.
   pub record HostsAddress (arguments : HostArguments) (served : HallSummary)
       (old new : HostState W) : Type 0 where
     pub state : State
@@ -54,10 +81,12 @@ module _ {W : Type 0} (Keeps : List Edit → W → W → Type 0) where
     pub as_many : length free ≡ arguments.options.connections
     pub all_free : (k : ℕ) → seat_at free k ≡ None
     pub seats : List (Option SeatState)
+    pub same_number : length seats ≡ length free
+    pub in_turns : HostsInTurns arguments free seats state old new
     pub seats_match : MatchesSeats new.hall seats
     pub serves : ServesOn (StepsInBytes (ValidStep arguments.root)) Keeps [] served.memory_failures
         (record {
-          machine = first_state arguments.first;
+          machine = first_state_within arguments.options.limits arguments.first;
           hall = with_hall_address old.hall arguments.address;
           seats = free;
           watchers = old.watchers;

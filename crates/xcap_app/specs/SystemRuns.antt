@@ -1,11 +1,12 @@
 -- What a run of the program that ends with 0 did, over sockets and streams without any traffic
 -- before. The machine follows RFC 4825; the program is the project's own.
-use Rattle.std.specs.Prelude.{◌≡◌, ℕ, ◌<◌, List, codes, length, Some}
+use Rattle.std.specs.Prelude.{◌≡◌, ℕ, ◌<◌, List, codes, length, Option, None, Some}
 use Rattle.edit_ops.specs.declared.edit.Edit.{Edit}
 use Rattle.halls.specs.HallState.{connection_at}
 use Rattle.hall_serve.specs.Exchanges.{AreExchanges, Exchange, edits, exchanges_on}
+use Rattle.hall_serve.specs.Seats.{SeatState, seat_at}
 use Rattle.hall_serve.specs.ServedConnections.{IsServed}
-use Rattle.store_core.specs.State.{State, first_state}
+use Rattle.store_core.specs.State.{State, first_state, first_state_within}
 use Rattle.store_core.specs.ValidStates.{IsValidState}
 use Rattle.http_wire.specs.declared.request.Request.{Request}
 use Rattle.edit_journal.specs.JournalTexts.{IsTorn, HasCompleteRecords, journal_text}
@@ -23,7 +24,9 @@ use Rattle.client_commands.specs.FollowCommand.{FollowsDocument}
 use Rattle.client_commands.specs.PutCommand.{PutsFromInput}
 use Rattle.client_commands.specs.declared.command_end.CommandEnd.TheVariants as ends
 use Rattle.xcap_app.specs.ClientCommands.{FollowArguments, NamesDocument, follow_options}
-use Rattle.xcap_app.specs.RunStates.{RunState, call_part, put_part}
+use Rattle.xcap_app.specs.CommandRuns.{host_arguments}
+use Rattle.xcap_app.specs.HostCommand.{HostArguments, HostsInTurns}
+use Rattle.xcap_app.specs.RunStates.{RunState, call_part, host_part, put_part}
 use Rattle.xcap_app.specs.ServeCommand.{served_line}
 use Rattle.xcap_app.specs.TextVerdicts.{IsTextVerdict}
 use Rattle.xcap_app.specs.SampleCommand.{MakesSample, summary_text}
@@ -32,7 +35,7 @@ use Rattle.xcap_app.specs.declared.command.Command.TheVariants.{Replay, Serve, K
 use Rattle.xcap_app.specs.declared.command.Command.TheVariants.{Fetch, Put, Delete, Follow}
 use Rattle.xcap_app.specs.declared.command.Command.TheVariants.{Host}
 use Rattle.xcap_app.specs.declared.command_line.CommandLine.{CommandLine}
-use Rattle.xcap_app.specs.declared.command_line.CommandLine.TheVariants.{Runs, BadHost, Unknown}
+use Rattle.xcap_app.specs.declared.command_line.CommandLine.TheVariants.{Runs, BadHost, NoCommand}
 use Rattle.xcap_app.specs.declared.exit.Exit.TheVariants.{Done}
 
 -- the text means a document, which was followed to the end
@@ -94,23 +97,31 @@ module _ {W : Type 0} (Keeps : List Edit → W → W → Type 0) where
     pub notified : Keeps edits old.watchers new.watchers
 
   -- On all connections of the hall the machine of this root answered, in one order of all
-  -- exchanges, from the state without documents and this first number on, through valid states. The
-  -- bytes given on each connection begin with the items of its exchanges, and the bytes taken are
-  -- its replies, as far as they were written. The watchers were notified of exactly the changes
-  -- that it made, in order.
-  pub record AnswersHall (first : ℕ) (root : List ℕ) (old new : RunState W) : Type 0 where
+  -- exchanges, from the state without documents, with the limits of the options and this first
+  -- number, on, through valid states. The bytes given on each connection begin with the items of
+  -- its exchanges, and the bytes taken are its replies, as far as they were written. The watchers
+  -- were notified of exactly the changes that it made, in order. The connections were served in
+  -- turns, at as many seats as the options say, all of them free before.
+  pub record AnswersHall (arguments : HostArguments) (old new : RunState W) : Type 0 where
     pub state : State
     pub kept : IsValidState state
     pub exchanges : List (Exchange Edit)
-    pub steps : AreExchanges (StepsInBytes (ValidStep root)) (first_state first) exchanges state
+    pub steps : AreExchanges (StepsInBytes (ValidStep arguments.root))
+        (first_state_within arguments.options.limits arguments.first) exchanges state
     pub each : (n : ℕ) → n < length new.hall.connections
         → IsServed (connection_at new.hall n) (exchanges_on n exchanges)
     pub notified : Keeps (edits exchanges) old.watchers new.watchers
+    pub free : List (Option SeatState)
+    pub as_many : length free ≡ arguments.options.connections
+    pub all_free : (k : ℕ) → seat_at free k ≡ None
+    pub seats : List (Option SeatState)
+    pub same_number : length seats ≡ length free
+    pub in_turns : HostsInTurns Keeps arguments free seats state (host_part old) (host_part new)
 
   -- what was done, by the command that the words spell; `first` is the number of the first change
   -- of `host`, which the clock gave
   abbrev pub DoesCommand : ℕ → CommandLine → RunState W → RunState W → Type 0
-  DoesCommand first Unknown old new = ⊥
+  DoesCommand first NoCommand old new = ⊥
   DoesCommand first (BadHost fault) old new = ⊥
   DoesCommand first (Runs (Replay root)) old new = AnswersInput root old new
   DoesCommand first (Runs (Serve address root count)) old new =
@@ -118,7 +129,8 @@ module _ {W : Type 0} (Keeps : List Edit → W → W → Type 0) where
       × (new.output.taken ≡ served_line count)
   DoesCommand first (Runs (Keep address root count)) old new =
       AnswersAfterJournal root count old new
-  DoesCommand first (Runs (Host address root options)) old new = AnswersHall first root old new
+  DoesCommand first (Runs (Host address root options)) old new =
+      AnswersHall (host_arguments address root options first) old new
   DoesCommand first (Runs (Check usage)) old new =
       IsTextVerdict usage new.input.inward.given Done × (new.output.taken ≡ codes "valid\n")
       × (new.watchers ≡ old.watchers)

@@ -20,7 +20,7 @@ pub enum CommandLine {
     /// The word `host`, with words after it that spell no command.
     BadHost(HostFault),
     /// No command.
-    Unknown,
+    NoCommand,
 }
 
 // The words after the first, if that is `host`.
@@ -49,13 +49,13 @@ pub(crate) fn parse_words(alloc: Global, words: &[String]) -> Result<CommandLine
     }
     match parse_command(alloc, words)? {
         Some(command) => Ok(CommandLine::Runs(command)),
-        None => Ok(CommandLine::Unknown),
+        None => Ok(CommandLine::NoCommand),
     }
 }
 
 /// How many connections are open at once at most, where the words spell the command `host`; 0 where
 /// the first isn't `host`. Does not allocate.
-pub fn hosted_connections(words: &[String]) -> usize
+pub fn connections_of_host(words: &[String]) -> usize
     ensures of_options { (rest : List (List ℕ)) (address root : List ℕ) (options : Options)
         → words_after_host (map string_bytes words.now) ≡ Some rest
         → host_of_words rest ≡ Runs (Host address root options) → result ≡ options.connections }

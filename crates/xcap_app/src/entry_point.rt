@@ -6,7 +6,9 @@ ghost use Rattle.xcap_app.specs.CommandRuns.{RunsCommand, service_arguments};
 ghost use Rattle.xcap_app.specs.ErrorMessages.{WritesMessage};
 ghost use Rattle.xcap_io.specs.StreamStates.{StreamState};
 ghost use Rattle.xcap_app.specs.StandardServing.{ServesByStandards};
-ghost use Rattle.xcap_app.specs.declared.command.Command.TheVariants.{Serve};
+ghost use Rattle.store_core.specs.ValidStates.{AreCountable};
+ghost use Rattle.xcap_app.specs.declared.command.Command.TheVariants.{Host, Serve};
+ghost use Rattle.xcap_app.specs.declared.host_options.HostOptions.{HostOptions as Options};
 ghost use Rattle.xcap_app.specs.declared.command_line.CommandLine.TheVariants.{Runs};
 ghost use Rattle.xcap_app.specs.declared.exit.Exit.{Exit};
 
@@ -27,6 +29,7 @@ use std::alloc::Global;
 use watchers::Watchers;
 use xcap_io::{Line, Peer, Port, Sink, Source};
 
+// Runs the command. The limits of `host` can be counted by a store.
 fn execute<P: Port, H: Hall, C: Peer, I: Source, O: Sink, E: Sink, W: Watchers<Edit>>(
     alloc: Global,
     command: &Command,
@@ -40,6 +43,8 @@ fn execute<P: Port, H: Hall, C: Peer, I: Source, O: Sink, E: Sink, W: Watchers<E
     watchers: &mut W,
 ) -> Exit
     requires positive { 1 ≤ first }
+    requires limits_countable { (address root : List ℕ) (options : Options)
+        → command.now ≡ Host address root options → AreCountable options.limits }
     requires no_connections { (H.state hall.old).connections ≡ [] }
     ensures runs_command { RunsCommand W.keeps first (Runs command.now) result
         (record {
@@ -167,7 +172,7 @@ fn execute_words<P: Port, H: Hall, C: Peer, I: Source, O: Sink, E: Sink, W: Watc
             exit
         }
         Ok(CommandLine::BadHost(fault)) => Exit::BadHostWords(fault),
-        Ok(CommandLine::Unknown) => Exit::Usage,
+        Ok(CommandLine::NoCommand) => Exit::Usage,
         Err(_) => Exit::OutOfMemory,
     }
 }

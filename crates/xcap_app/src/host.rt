@@ -1,6 +1,8 @@
 // The command `host`: the connections that come at an address, many at once.
 ghost use Rattle.std.specs.Prelude.{◌≡◌, ℕ, ◌≤◌, [], None, length, IfOk, string_bytes};
 ghost use Rattle.hall_serve.specs.Seats.{seat_at};
+ghost use Rattle.store_core.specs.Contents.{first_contents_within};
+ghost use Rattle.store_core.specs.ValidStates.{AreCountable};
 ghost use Rattle.xcap_app.specs.HostCommand.{HostsCommand, listening_line};
 ghost use Rattle.xcap_app.specs.declared.host_options.HostOptions.{HostOptions as Options};
 
@@ -40,7 +42,8 @@ fn host_at<H: Hall, E: Sink, W: Watchers<Edit>>(
     requires no_connections { (H.state hall.old).connections ≡ [] }
     requires all_free { (k : ℕ) → seat_at seats.old k ≡ None }
     ensures hosts_command { (options : Options) (first : ℕ) → 1 ≤ first
-        → server.old.content ≡ record { documents = []; next = first }
+        → AreCountable options.limits
+        → server.old.content ≡ first_contents_within options.limits first
         → length seats.old ≡ options.connections
         → HostsCommand W.keeps
         (record {
@@ -78,17 +81,19 @@ fn host_with_seats<H: Hall, E: Sink, W: Watchers<Edit>>(
     address: &str,
     line: &str,
     root: &Root,
+    options: HostOptions,
     first: u64,
     hall: &mut H,
     errors: &mut E,
     watchers: &mut W,
 ) -> Exit
     requires positive { 1 ≤ first }
+    requires limits_countable { AreCountable options.limits }
     requires line_of_address { line.now ≡ listening_line address.now }
     requires no_connections { (H.state hall.old).connections ≡ [] }
     requires all_free { (k : ℕ) → seat_at seats.old k ≡ None }
-    ensures hosts_command { (options : Options) → length seats.old ≡ options.connections
-        → HostsCommand W.keeps
+    requires as_many { length seats.old ≡ options.connections }
+    ensures hosts_command { HostsCommand W.keeps
         (record {
           address = address.now;
           root = root.now;
@@ -106,7 +111,7 @@ fn host_with_seats<H: Hall, E: Sink, W: Watchers<Edit>>(
           watchers = watchers.new;
         }) }
 {
-    let Ok(mut server) = Server::new(alloc, root, first) else {
+    let Ok(mut server) = Server::within(alloc, root, first, options.limits) else {
         return Exit::OutOfMemory;
     };
     let exit = host_at(&mut server, seats, address, line, hall, errors, watchers);
@@ -116,9 +121,9 @@ fn host_with_seats<H: Hall, E: Sink, W: Watchers<Edit>>(
 }
 
 /// Listens at the address and serves the connections that come, many at once, by a new server of
-/// this root, whose first change gets the number `first`. Once it listens, it says so on `errors`.
-/// The command ends where the hall fails, or when out of memory before it listens; or where no
-/// connection is to come any more.
+/// this root and the limits of the options, whose first change gets the number `first`. Once it
+/// listens, it says so on `errors`. The command ends where the hall fails, or when out of memory
+/// before it listens; or where no connection is to come any more.
 pub(crate) fn host<H: Hall, E: Sink, W: Watchers<Edit>>(
     alloc: Global,
     address: &str,
@@ -130,6 +135,7 @@ pub(crate) fn host<H: Hall, E: Sink, W: Watchers<Edit>>(
     watchers: &mut W,
 ) -> Exit
     requires positive { 1 ≤ first }
+    requires limits_countable { AreCountable options.limits }
     requires no_connections { (H.state hall.old).connections ≡ [] }
     ensures hosts_command { HostsCommand W.keeps
         (record {
@@ -161,6 +167,7 @@ pub(crate) fn host<H: Hall, E: Sink, W: Watchers<Edit>>(
         address,
         line.as_str(),
         root,
+        options,
         first,
         hall,
         errors,

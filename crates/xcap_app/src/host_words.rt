@@ -6,6 +6,8 @@ ghost use Rattle.xcap_app.specs.ClientArguments.{numeral_up_to};
 ghost use Rattle.xcap_app.specs.HostWords.{bad_word, choices_of_words, choose_once};
 ghost use Rattle.xcap_app.specs.HostWords.{host_of_choices, host_of_root, host_of_words};
 ghost use Rattle.xcap_app.specs.HostWords.{no_choices, options_of_choices, with_value, with_word};
+ghost use Rattle.xcap_app.specs.HostWords.{with_bytes, with_connections, with_documents};
+ghost use Rattle.xcap_app.specs.HostWords.{with_home_bytes, with_home_documents};
 ghost use Rattle.xcap_app.specs.declared.command_line.CommandLine.TheVariants.{Runs};
 ghost use Rattle.xcap_app.specs.declared.command.Command.TheVariants.{Host};
 ghost use Rattle.xcap_app.specs.declared.host_options.HostOptions.{HostOptions as Options};
@@ -14,6 +16,7 @@ use crate::command::Command;
 use crate::command_line::CommandLine;
 use crate::host_options::{HostFault, HostOptions};
 use std::alloc::{AllocError, Global};
+use store_core::{Limits, MAX_BYTE_LIMIT, MAX_DOCUMENT_LIMIT};
 use xcap_uri::{Root, cut, parse_numeral, read_root};
 use xml_names::Text;
 
@@ -26,6 +29,10 @@ const MAX_CONNECTIONS: u64 = 65_536;
 #[derive(Clone, Copy)]
 struct HostChoices {
     connections: Option<usize>,
+    documents: Option<usize>,
+    bytes: Option<u64>,
+    home_documents: Option<usize>,
+    home_bytes: Option<u64>,
 }
 
 // The number of connections of a value.
@@ -40,8 +47,32 @@ fn parse_connections(value: &[u8]) -> Option<usize>
     Some(number as usize)
 }
 
+// The limit of documents of a value.
+#[tactic(auto, unfolding(crate::specs::ClientArguments::numeral_up_to))]
+fn parse_documents(value: &[u8]) -> Option<usize>
+    ensures exact { result ≡ numeral_up_to MAX_DOCUMENT_LIMIT value.now }
+{
+    let number = parse_numeral(value)?;
+    if number > MAX_DOCUMENT_LIMIT as u64 {
+        return None;
+    }
+    Some(number as usize)
+}
+
+// The limit of bytes of a value.
+#[tactic(auto, unfolding(crate::specs::ClientArguments::numeral_up_to))]
+fn parse_bytes(value: &[u8]) -> Option<u64>
+    ensures exact { result ≡ numeral_up_to MAX_BYTE_LIMIT value.now }
+{
+    let number = parse_numeral(value)?;
+    if number > MAX_BYTE_LIMIT {
+        return None;
+    }
+    Some(number)
+}
+
 // The value of an option, where no word chose one before.
-fn choose_once(before: Option<usize>, value: Option<usize>) -> Option<usize>
+fn choose_once<T: Copy>(before: Option<T>, value: Option<T>) -> Option<T>
     ensures exact { result ≡ choose_once before value }
 {
     match before {
@@ -50,16 +81,80 @@ fn choose_once(before: Option<usize>, value: Option<usize>) -> Option<usize>
     }
 }
 
+// The choices with this number of connections, where no word chose one before.
+fn with_connections(choices: HostChoices, value: &[u8]) -> Option<HostChoices>
+    ensures exact { result ≡ with_connections choices value.now }
+{
+    let connections = choose_once(choices.connections, parse_connections(value))?;
+    Some(HostChoices {
+        connections: Some(connections),
+        ..choices
+    })
+}
+
+// The choices with this limit of documents, likewise.
+fn with_documents(choices: HostChoices, value: &[u8]) -> Option<HostChoices>
+    ensures exact { result ≡ with_documents choices value.now }
+{
+    let documents = choose_once(choices.documents, parse_documents(value))?;
+    Some(HostChoices {
+        documents: Some(documents),
+        ..choices
+    })
+}
+
+// The choices with this limit of bytes, likewise.
+fn with_bytes(choices: HostChoices, value: &[u8]) -> Option<HostChoices>
+    ensures exact { result ≡ with_bytes choices value.now }
+{
+    let bytes = choose_once(choices.bytes, parse_bytes(value))?;
+    Some(HostChoices {
+        bytes: Some(bytes),
+        ..choices
+    })
+}
+
+// The choices with this limit of a user's documents, likewise.
+fn with_home_documents(choices: HostChoices, value: &[u8]) -> Option<HostChoices>
+    ensures exact { result ≡ with_home_documents choices value.now }
+{
+    let documents = choose_once(choices.home_documents, parse_documents(value))?;
+    Some(HostChoices {
+        home_documents: Some(documents),
+        ..choices
+    })
+}
+
+// The choices with this limit of a user's bytes, likewise.
+fn with_home_bytes(choices: HostChoices, value: &[u8]) -> Option<HostChoices>
+    ensures exact { result ≡ with_home_bytes choices value.now }
+{
+    let bytes = choose_once(choices.home_bytes, parse_bytes(value))?;
+    Some(HostChoices {
+        home_bytes: Some(bytes),
+        ..choices
+    })
+}
+
 // The choices with one more, if there is such an option and no word chose it before.
 #[tactic(auto, unfolding(crate::specs::HostWords::with_value))]
 fn with_value(choices: HostChoices, name: &[u8], value: &[u8]) -> Option<HostChoices>
     ensures exact { result ≡ with_value choices name.now value.now }
 {
     if name == b"connections".as_slice() {
-        let connections = choose_once(choices.connections, parse_connections(value))?;
-        return Some(HostChoices {
-            connections: Some(connections),
-        });
+        return with_connections(choices, value);
+    }
+    if name == b"documents".as_slice() {
+        return with_documents(choices, value);
+    }
+    if name == b"bytes".as_slice() {
+        return with_bytes(choices, value);
+    }
+    if name == b"home-documents".as_slice() {
+        return with_home_documents(choices, value);
+    }
+    if name == b"home-bytes".as_slice() {
+        return with_home_bytes(choices, value);
     }
     None
 }
@@ -81,7 +176,13 @@ fn choose_options(words: &[String]) -> Result<HostChoices, &str>
         (λ choices. choices_of_words no_choices (map string_bytes words.now) ≡ Ok choices)
         (λ word. choices_of_words no_choices (map string_bytes words.now) ≡ Err word.now) }
 {
-    let mut choices = HostChoices { connections: None };
+    let mut choices = HostChoices {
+        connections: None,
+        documents: None,
+        bytes: None,
+        home_documents: None,
+        home_bytes: None,
+    };
     let mut rest = words;
     'words: while let [word, later @ ..] = rest {
         let Some(more) = with_word(choices, word.as_str()) else {
@@ -97,11 +198,16 @@ fn choose_options(words: &[String]) -> Result<HostChoices, &str>
 fn options_of_choices(choices: &HostChoices) -> HostOptions
     ensures exact { result ≡ options_of_choices choices.now }
 {
-    let connections = match choices.connections {
-        Some(connections) => connections,
-        None => DEFAULT_CONNECTIONS,
-    };
-    HostOptions { connections }
+    let usual = Limits::usual();
+    HostOptions {
+        connections: choices.connections.unwrap_or(DEFAULT_CONNECTIONS),
+        limits: Limits {
+            documents: choices.documents.unwrap_or(usual.documents),
+            bytes: choices.bytes.unwrap_or(usual.bytes),
+            home_documents: choices.home_documents,
+            home_bytes: choices.home_bytes,
+        },
+    }
 }
 
 // Words of `host` of which this one is wrong.

@@ -4,7 +4,7 @@ ghost use Rattle.std.specs.Prelude.{◌≡◌, ◌<◌, ◌≤◌, [], length, f
 ghost use Rattle.edit_journal.specs.Journals.{IsJournalProgress};
 ghost use Rattle.edit_journal.specs.declared.limits.TheConstants.{MAX_JOURNAL_BYTES};
 ghost use Rattle.edit_journal.specs.JournalTexts.{IsRecordedRequest, journal_text};
-ghost use Rattle.store_core.specs.Contents.{Represents};
+ghost use Rattle.store_core.specs.Contents.{Represents, first_contents};
 ghost use Rattle.store_core.specs.ValidStates.{IsValidState};
 ghost use Rattle.store_core.specs.State.{first_state};
 ghost use Rattle.xcap_server.specs.ReplayedRequests.{AcceptsRequests};
@@ -92,7 +92,7 @@ fn restart_and_serve<'a, P: Port, I: Source, O: Sink, W: Watchers<Edit>>(
     input: &mut I,
     watchers: &mut W,
 ) -> Exit
-    requires empty { server.old.content ≡ record { documents = []; next = 1 } }
+    requires empty { server.old.content ≡ first_contents 1 }
     requires fresh { (⟦<StreamJournal<'a, O> as Journal>⟧.state journal.old).held ≡ [] }
     requires no_fault { (⟦<StreamJournal<'a, O> as Journal>⟧.state journal.old).faults ≡ 0 }
     ensures keeps_command { (output output' : StreamState)
@@ -132,7 +132,7 @@ fn keep_with_server<P: Port, I: Source, O: Sink, W: Watchers<Edit>>(
     output: &mut O,
     watchers: &mut W,
 ) -> Exit
-    requires empty { server.old.content ≡ record { documents = []; next = 1 } }
+    requires empty { server.old.content ≡ first_contents 1 }
     ensures keeps_command { KeepsCommand W.keeps
         (record { address = address.now; root = server.old.root; count = count }) result
         (record {

@@ -36,7 +36,7 @@ mod status_recorder;
 mod system;
 
 pub use command::Command;
-pub use command_line::{CommandLine, hosted_connections};
+pub use command_line::{CommandLine, connections_of_host};
 pub use entry_point::run;
 pub use exit::Exit;
 pub use host_options::{HostFault, HostOptions};

@@ -1,6 +1,6 @@
 // The command `replay`: the input as one connection, whose replies go to the output.
-ghost use Rattle.std.specs.Prelude.{◌≡◌, []};
-ghost use Rattle.store_core.specs.Contents.{Represents};
+ghost use Rattle.std.specs.Prelude.{◌≡◌};
+ghost use Rattle.store_core.specs.Contents.{Represents, first_contents};
 ghost use Rattle.store_core.specs.ValidStates.{IsValidState};
 ghost use Rattle.store_core.specs.State.{State};
 ghost use Rattle.xcap_app.specs.ReplayCommand.{ReplaysCommand, ServesInput};
@@ -57,7 +57,7 @@ fn replay_with_server<I: Source, O: Sink, W: Watchers<Edit>>(
     output: &mut O,
     watchers: &mut W,
 ) -> Exit
-    requires { server.old.content ≡ record { documents = []; next = 1 } }
+    requires { server.old.content ≡ first_contents 1 }
     ensures replays_command { ReplaysCommand W.keeps server.old.root result
         (record {
           input = I.state input.old;

@@ -1,5 +1,6 @@
 // The command `serve`: the connections that come at an address.
 ghost use Rattle.std.specs.Prelude.{◌≡◌, [], MatchResult};
+ghost use Rattle.store_core.specs.Contents.{first_contents};
 ghost use Rattle.store_core.specs.State.{first_state};
 ghost use Rattle.xcap_io.specs.Connections.{ListenFailed};
 ghost use Rattle.xcap_io.specs.StreamStates.{OnlyWrites};
@@ -94,7 +95,7 @@ fn serve_and_print<P: Port, O: Sink, W: Watchers<Edit>>(
     output: &mut O,
     watchers: &mut W,
 ) -> Exit
-    requires { server.old.content ≡ record { documents = []; next = 1 } }
+    requires { server.old.content ≡ first_contents 1 }
     ensures serves_command { ServesCommand W.keeps
         (record { address = address.now; root = server.old.root; count = count }) result
         (record {

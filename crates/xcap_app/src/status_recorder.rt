@@ -28,10 +28,11 @@ impl Model for StatusRecorder {
     ghost use Rattle.xml_tree.specs.inner.TreeCodes.{tree_code};
     ghost use Rattle.doc_names.specs.contracts.doc_id.DocId as d;
     ghost use Rattle.edit_ops.specs.contracts.change.Change as c;
+    ghost use Rattle.store_core.specs.contracts.limits.Limits as l;
 
     ghost Value = { RecorderState };
 
-    ghost coded = { Prim.hlevel (codes, tree_code, d.the_row.coded, c.the_row.coded) };
+    ghost coded = { Prim.hlevel (codes, tree_code, d.the_row.coded, c.the_row.coded, l.the_row.coded) };
 
     ghost view = { λ n. record {
       server = n.server;

@@ -7,7 +7,7 @@ ghost use Rattle.xcap_app.specs.Exits.{status_of, words_of};
 ghost use Rattle.xcap_app.specs.CommandRuns.{RunsCommand};
 ghost use Rattle.xcap_app.specs.SystemRuns.{DoesCommand};
 ghost use Rattle.xcap_app.specs.ErrorMessages.{WritesMessage};
-ghost use Rattle.xcap_app.specs.declared.command_line.CommandLine.TheVariants.{Unknown};
+ghost use Rattle.xcap_app.specs.declared.command_line.CommandLine.TheVariants.{NoCommand};
 ghost use Rattle.xcap_app.specs.declared.exit.Exit.{Exit};
 
 use crate::entry_point::run;
@@ -125,7 +125,7 @@ pub fn start<N: Net + Clock + Drop, H: Hall, I: Read, O: Write, E: Write + Drop>
     requires none_taken { (⟦<StdSink<O> as Line>⟧.state output.old).taken ≡ [] }
     ensures status_0_done { result ≡ 0
         → DoesCommand ⟦<Option<Audit<StdSink<E>>> as Watchers<Edit>>⟧.keeps first
-        (option_map_or (λ words. parse_words (map string_bytes words.items)) words Unknown)
+        (option_map_or (λ words. parse_words (map string_bytes words.items)) words NoCommand)
         (record {
           port = ⟦<TcpPort<N> as Line>⟧.state port.old;
           hall = H.state hall.old;
@@ -146,7 +146,7 @@ pub fn start<N: Net + Clock + Drop, H: Hall, I: Read, O: Write, E: Write + Drop>
         }) }
     ensures exit_status { (exit : Exit) × (told : StreamState) × (result ≡ status_of exit)
         × RunsCommand ⟦<Option<Audit<StdSink<E>>> as Watchers<Edit>>⟧.keeps first
-        (option_map_or (λ words. parse_words (map string_bytes words.items)) words Unknown) exit
+        (option_map_or (λ words. parse_words (map string_bytes words.items)) words NoCommand) exit
         (record {
           port = ⟦<TcpPort<N> as Line>⟧.state port.old;
           hall = H.state hall.old;

@@ -45,7 +45,7 @@ pub fn get_feed(
     let text = match store.since(feed.doc, feed.tag) {
         Since::Gone => gone_notice(alloc, root, feed.doc, feed.tag)?,
         Since::Unknown => return Ok(Reply::fixed(410, request.closes)),
-        Since::Changes(notes) => notice(alloc, feed.mode, root, feed.doc, feed.tag, notes)?,
+        Since::Changes(notes) => notice(alloc, feed.mode, root, feed.doc, feed.tag, &notes)?,
     };
     Ok(notice_reply(text, method, request.closes))
 }

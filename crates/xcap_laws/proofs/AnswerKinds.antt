@@ -34,7 +34,7 @@ use Rattle.request_checks.specs.Fields.{Preconditions}
 use Rattle.request_checks.specs.MediaTypes.{document_media_type, has_media_type}
 use Rattle.request_checks.specs.Methods.{reply_for_method, is_reading, method_of}
 use Rattle.request_checks.specs.Rights.{is_allowed}
-use Rattle.request_checks.specs.Verdicts.{if_match_holds, if_none_match_holds, verdict_of}
+use Rattle.request_checks.specs.Verdicts.{if_match_holds, if_none_match_holds, precondition_verdict}
 use Rattle.request_checks.specs.declared.conditions.Outcome.{Outcome}
 use Rattle.request_checks.specs.declared.conditions.Outcome.TheVariants.{Unreadable, Go, NotModified, Failed}
 use Rattle.request_checks.specs.declared.method.Method.{Method}
@@ -104,7 +104,7 @@ write_verdict true true h = let z : NotModified ≡ Go = h in cc
 write_verdict true false h = let z : NotModified ≡ Failed = h in cc
 write_verdict false y h = let z : NotModified ≡ Failed = h in cc
 
-never_same : (tag : Option ℕ) (exists : Bool) (said : Option Preconditions) → NotModified ≡ option_map_or (λ conditions. outcome_of_verdict (verdict_of conditions tag exists false)) said Unreadable → ⊥
+never_same : (tag : Option ℕ) (exists : Bool) (said : Option Preconditions) → NotModified ≡ option_map_or (λ conditions. outcome_of_verdict (precondition_verdict conditions tag exists false)) said Unreadable → ⊥
 never_same tag exists None h = let z : NotModified ≡ Unreadable = h in cc
 never_same tag exists (Some s) h = write_verdict (if_match_holds tag exists s.if_match) (if_none_match_holds tag exists s.if_none_match) h
 
@@ -165,6 +165,8 @@ module _ (root : List ℕ) (c : Content) (request : Request) (a : Answer) where
   store_refuses (refusals.TooLarge len) is = only 507 refl refl is
   store_refuses refusals.TooMany is = only 507 refl refl is
   store_refuses (refusals.StoreFull total) is = only 507 refl refl is
+  store_refuses refusals.HomeTooMany is = only 507 refl refl is
+  store_refuses (refusals.HomeFull total) is = only 507 refl refl is
   store_refuses refusals.NoNumber is = only 507 refl refl is
 
   module _ (id : DocId) (reply : Note → SentReply) (fields : Note → HeadFields) (made_as : (note : Note) → reply note ≡ sent_reply (fields note) []) (frames : (note : Note) → IsFramed request (fields note) []) (other : (note : Note) → ((fields note).status == 304) ≡ false)

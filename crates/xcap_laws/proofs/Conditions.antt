@@ -27,7 +27,7 @@ use Rattle.request_checks.specs.Fields.{IsConditionsReading, FieldValue, Precond
 use Rattle.request_checks.specs.MediaTypes.{document_media_type}
 use Rattle.request_checks.specs.Methods.{method_of}
 use Rattle.request_checks.specs.Rights.{fields_named}
-use Rattle.request_checks.specs.Verdicts.{if_match_holds, if_none_match_holds, matches_etag_weakly, matches_etag_strongly, verdict_of}
+use Rattle.request_checks.specs.Verdicts.{if_match_holds, if_none_match_holds, matches_etag_weakly, matches_etag_strongly, precondition_verdict}
 use Rattle.request_checks.specs.declared.conditions.Outcome.{Outcome}
 use Rattle.request_checks.specs.declared.conditions.Outcome.TheVariants as outcomes
 use Rattle.request_checks.specs.declared.entity_tags.EntityTag.{EntityTag}
@@ -238,7 +238,7 @@ passes root c next request reply e does = by (method_of request.method) refl
 -- ---- If-Match
 
 abbrev outcome_of : Option ℕ → Bool → Option Preconditions → Outcome
-outcome_of tag exists said = option_map_or (λ conditions. outcome_of_verdict (verdict_of conditions tag exists false)) said outcomes.Unreadable
+outcome_of tag exists said = option_map_or (λ conditions. outcome_of_verdict (precondition_verdict conditions tag exists false)) said outcomes.Unreadable
 
 first_holds : (tag : Option ℕ) (closes : Bool) (b y : Bool) → None ≡ outcome_reply (outcome_of_verdict (if not b then Failed else if y then Go else if false then Same else Failed)) tag closes → b ≡ true
 first_holds tag closes true y h = refl

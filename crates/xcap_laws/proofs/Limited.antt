@@ -1,5 +1,5 @@
 -- Every state of a run from a new server keeps the limits of documents.
-use Rattle.std.proofs.Common.{◌≡◌, inl, inr, ℕ, ◌+◌, ◌<◌, ◌≤◌, Bool, true, false, cond, ◌&&◌, List, [], ◌∷◌, length, map, sum_by, Option, None, Some, Ok, refl, sym, ap, subst, arith, encode_utf8_all}
+use Rattle.std.proofs.Common.{◌≡◌, inl, inr, ℕ, ◌+◌, ◌<◌, ◌≤◌, Bool, true, false, cond, ◌&&◌, List, [], ◌∷◌, length, map, sum_by, Option, None, Some, option_map, Ok, refl, sym, ap, subst, ◌∙◌, arith, encode_utf8_all}
 use Rattle.std.specs.Prelude.{nat_le}
 use Rattle.std.proofs.lemmas.Bool.Decides.{nat_tests}
 use Rattle.std.specs.List.{AllByRecursion}
@@ -20,18 +20,20 @@ use Rattle.reply_text.specs.ReplyHeads.{SentReply}
 use Rattle.request_checks.specs.Methods.{method_of}
 use Rattle.request_checks.specs.declared.method.Method.{Method}
 use Rattle.store_core.specs.Contents.{StoredDocument, StoreContents as Content, contents_of, stored_document}
-use Rattle.store_core.specs.DocumentChanges.{ChangeKind, Makes, Edits, Removes, change_kind, state_after_by_kind, refusal_of, refusal_of_number, refusal_of_tree, refusal_or, change_result, contents_after, find_document, note_for, stored_id}
+use Rattle.store_core.specs.DocumentChanges.{ChangeKind, Makes, Edits, Removes, change_kind, state_after_by_kind, refusal_of, refusal_of_number, refusal_of_tree, refusal_or, change_result, contents_after, find_document, note_for, document_id, stored_id}
+use Rattle.store_core.specs.HomeLimits.{IsWithin, documents_of_home}
+use Rattle.store_core.specs.declared.limits.Limits.{Limits}
 use Rattle.store_core.specs.ChangePreconditions.{MayRequest, MayRequestByKind}
-use Rattle.store_core.specs.State.{Document, State, Version, first_state, is_within_retention, notes, longest_retained_end, versions}
-use Rattle.store_core.specs.ValidStates.{IsValidHistory, IsSoundDocumentFor, IsValidState}
+use Rattle.store_core.specs.State.{Document, State, Version, default_limits, first_state, first_state_within, is_within_retention, notes, longest_retained_end, versions}
+use Rattle.store_core.specs.ValidStates.{AreCountable, IsValidHistory, IsSoundDocumentFor, IsValidState}
 use Rattle.store_core.specs.declared.refusal.StoreRefusal.{StoreRefusal}
 use Rattle.store_core.specs.declared.refusal.StoreRefusal.TheVariants.{NoNumber}
 use Rattle.store_core.proofs.AcceptedChanges.{sum-first}
-use Rattle.store_core.proofs.KeptAfter.{kept-first}
+use Rattle.store_core.proofs.KeptAfter.{kept-first-within}
 use Rattle.store_core.proofs.PutLengths.{print_len}
 use Rattle.store_core.proofs.SoundHeld.{all_sound}
 use Rattle.xcap_machine.specs.Answers.{Answer}
-use Rattle.xcap_machine.specs.Machine.{Step, state_after_answer, answer_with_edit}
+use Rattle.xcap_machine.specs.Machine.{Step, change_from_edit, state_after_answer, answer_with_edit}
 use Rattle.xcap_machine.proofs.Steps.{kept_after}
 use Rattle.xcap_machine.proofs.Ways.{Way, changes, stays, way_of}
 use Rattle.xcap_laws.specs.DocumentLimits.{AreRetainedRecords, IsDocumentWithinLimits, IsVersionWithinLimits, KeepsLimits, printed_len}
@@ -86,9 +88,17 @@ sums (d ∷ ds) =
     omega (arith, first, same, printed d.now.tree, sums ds)
 
 -- a valid state whose next number is at most 2^64 keeps the limits
-pub keeps_limits : (m : State) → IsValidState m → m.next ≤ 18446744073709551616 → KeepsLimits m
+pub keeps_limits : (m : State) → IsValidState m → m.next ≤ 18446744073709551616 → KeepsLimits m.limits m
 keeps_limits m kept low_next =
-    record { each = documents_within m.next low_next m.documents kept.documents; few = kept.few; room = omega (arith, sums m.documents, kept.room) }
+    record {
+      each = documents_within m.next low_next m.documents kept.documents;
+      few = kept.few;
+      room = omega (arith, sums m.documents, kept.room);
+      homes = λ home. record {
+        few = (kept.homes home).few;
+        room = subst (λ (n : ℕ). IsWithin m.limits.home_bytes n) (sym (sums (documents_of_home document_id m.documents home))) (kept.homes home).room;
+      };
+    }
 
 -- ---- the numbers of changes
 
@@ -130,6 +140,16 @@ next_number m id change (Makes root) = refl
 next_number m id change Edits = refl
 next_number m id change Removes = refl
 
+limits_by : (m : State) (id : DocId) (change : Change) (act : ChangeKind) → (state_after_by_kind m id change act).limits ≡ m.limits
+limits_by m id change (Makes root) = refl
+limits_by m id change Edits = refl
+limits_by m id change Removes = refl
+
+-- no answer changes the limits
+limits_after : (m : State) (made : Option (DocId × Note)) → (state_after_answer m made).limits ≡ m.limits
+limits_after m None = refl
+limits_after m (Some made) = limits_by m made.0 made.1.change (change_kind made.1.change)
+
 number_by : (method : Method) (closes : Bool) (m : State) (a : Answer) → IsValidState m → m.next ≤ 18446744073709551616 → Way method closes (contents_of m) a → (state_after_answer m a.made).next ≤ 18446744073709551616
 number_by method closes m a kept few (stays reply tells same is) =
     subst (λ (x : Answer). (state_after_answer m x.made).next ≤ 18446744073709551616) (sym is) few
@@ -151,8 +171,15 @@ run_keeps root _ _ (ends m) kept few = (kept, few)
 run_keeps root _ _ (goes_on m n last request reply edit step rest) kept few =
     run_keeps root n last rest (kept_after root m request reply n edit step kept) (number_after root m request reply n edit step kept few)
 
-pub limits_hold : (root : List ℕ) (first : ℕ) (m : State) → 1 ≤ first → first < 18446744073709551616 → ReachesBySteps root (first_state first) m → KeepsLimits m
-limits_hold root first m positive few run =
-    let start : IsValidState (first_state first) = kept-first first positive in
-    let last = run_keeps root (first_state first) m run start (omega (arith, few)) in
-    keeps_limits m last.0 last.1
+run_limits : (root : List ℕ) (m last : State) → ReachesBySteps root m last → last.limits ≡ m.limits
+run_limits root _ _ (ends m) = refl
+run_limits root _ _ (goes_on m n last request reply edit step rest) = run_limits root n last rest ∙ ap (λ (x : State). x.limits) step.goes_on ∙ limits_after m (option_map change_from_edit edit)
+
+pub limits_hold_within : (root : List ℕ) (limits : Limits) (first : ℕ) (m : State) → 1 ≤ first → first < 18446744073709551616 → AreCountable limits → ReachesBySteps root (first_state_within limits first) m → KeepsLimits limits m
+limits_hold_within root limits first m positive few most run =
+    let start : IsValidState (first_state_within limits first) = kept-first-within limits first positive most in
+    let last = run_keeps root (first_state_within limits first) m run start (omega (arith, few)) in
+    subst (λ (l : Limits). KeepsLimits l m) (run_limits root (first_state_within limits first) m run) (keeps_limits m last.0 last.1)
+
+pub limits_hold : (root : List ℕ) (first : ℕ) (m : State) → 1 ≤ first → first < 18446744073709551616 → ReachesBySteps root (first_state first) m → KeepsLimits default_limits m
+limits_hold root first m positive few run = limits_hold_within root default_limits first m positive few (omega arith, omega arith) run

@@ -11,7 +11,8 @@ use Rattle.std.proofs.lemmas.Str.{chars-IsAscii, IsUtf8-from_ascii}
 use Rattle.httparse.specs.Grammar.{Field, IsField, IsToken, is_token_byte, is_value_byte, AllPass, trim_ows, crlf}
 use Rattle.httparse.specs.Spans.{name_and_value}
 use Rattle.http_wire.specs.Fields.{is_number, same_ignoring_case, field_values}
-use Rattle.reply_text.specs.ReplyHeads.{HeadFields, media_type}
+use Rattle.reply_text.specs.ReplyHeads.{HeadFields}
+use Rattle.reply_text.specs.MediaTypes.{media_type}
 use Rattle.reply_text.specs.declared.media_types.MediaType.{MediaType}
 use Rattle.reply_text.specs.declared.media_types.MediaType.TheVariants as medias
 use Rattle.request_checks.specs.Tags.{AllBytesPass, is_tag_byte}
@@ -67,6 +68,7 @@ seen_media medias.Attribute = refl
 seen_media medias.Namespaces = refl
 seen_media medias.Error = refl
 seen_media medias.Diff = refl
+seen_media medias.PlainText = refl
 
 media_sent : (media : Option MediaType) → AllByRecursion IsSent (media_lines media)
 unfolding is_token_byte

@@ -9,7 +9,8 @@ use Rattle.std.proofs.lemmas.Bool.Decides.{nat_tests}
 use Rattle.httparse.specs.Grammar.{ResponseHead, print_response, Field, IsField, print_field, crlf, IsToken, is_token_byte, is_value_byte, AllPass, trim_ows}
 use Rattle.httparse.specs.Spans.{name_and_value}
 use Rattle.http_wire.specs.Fields.{same_ignoring_case, field_values}
-use Rattle.reply_text.specs.ReplyHeads.{HeadFields, head_of, status_line, etag_line, allow_line, media_type, media_line, length_line, close_line, line_end}
+use Rattle.reply_text.specs.ReplyHeads.{HeadFields, head_of, status_line, etag_line, allow_line, media_line, length_line, close_line, line_end}
+use Rattle.reply_text.specs.MediaTypes.{media_type}
 use Rattle.reply_text.specs.Statuses.{is_status, reason, statuses}
 use Rattle.reply_text.specs.declared.media_types.MediaType.{MediaType}
 use Rattle.reply_text.specs.declared.media_types.MediaType.TheVariants as medias

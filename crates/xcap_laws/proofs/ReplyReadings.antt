@@ -10,7 +10,8 @@ use Rattle.std.proofs.lemmas.List.{length-map, take_at}
 use Rattle.std.proofs.lemmas.List.Elements.{All-from_recursion}
 use Rattle.httparse.specs.Grammar.{ResponseHead, IsResponseHead, IsField, is_value_byte, print_response, status_code}
 use Rattle.httparse.specs.Spans.{name_and_value}
-use Rattle.reply_text.specs.ReplyHeads.{HeadFields, SentReply, reply_bytes, head_of, sent_reply, status_line, etag_line, allow_line, media_type, media_line, length_line, close_line, line_end}
+use Rattle.reply_text.specs.ReplyHeads.{HeadFields, SentReply, reply_bytes, head_of, sent_reply, status_line, etag_line, allow_line, media_line, length_line, close_line, line_end}
+use Rattle.reply_text.specs.MediaTypes.{media_type}
 use Rattle.reply_text.specs.Statuses.{is_status, reason}
 use Rattle.reply_text.specs.declared.media_types.MediaType.{MediaType}
 use Rattle.reply_text.specs.declared.media_types.MediaType.TheVariants as medias
@@ -66,6 +67,7 @@ media_short (Some medias.Attribute) = omega arith
 media_short (Some medias.Namespaces) = omega arith
 media_short (Some medias.Error) = omega arith
 media_short (Some medias.Diff) = omega arith
+media_short (Some medias.PlainText) = omega arith
 
 size_short : (bodiless : Bool) (size : ℕ) → length (if bodiless then [] else length_line size) ≤ 100
 unfolding length_line

@@ -7,7 +7,7 @@ use Rattle.http_wire.specs.declared.request.Request.{Request}
 use Rattle.request_checks.specs.Conditions.{outcome_of_verdict}
 use Rattle.request_checks.specs.Fields.{IsConditionsReading, FieldValue, Missing, Preconditions, HasFieldValue, Star, Tags}
 use Rattle.request_checks.specs.Rights.{fields_named}
-use Rattle.request_checks.specs.Verdicts.{if_match_holds, if_none_match_holds, matches_etag_weakly, verdict_of}
+use Rattle.request_checks.specs.Verdicts.{if_match_holds, if_none_match_holds, matches_etag_weakly, precondition_verdict}
 use Rattle.request_checks.specs.declared.conditions.Outcome.TheVariants.{Unreadable, Go, NotModified, Failed}
 use Rattle.request_checks.specs.declared.verdicts.Verdict.TheVariants as verdicts
 use Rattle.store_core.specs.Contents.{StoreContents as Content}
@@ -37,7 +37,7 @@ record SaysTag (request : Request) (tag : ℕ) : Type 0 where
   names : FieldNamesTag tag value
 
 says_tag : (request : Request) (tag : ℕ) (said : Option Preconditions) → IsConditionsReading (fields_named (codes "if-match") request.fields) (fields_named (codes "if-none-match") request.fields) said
-    → NotModified ≡ option_map_or (λ conditions. outcome_of_verdict (verdict_of conditions (Some tag) true true)) said Unreadable → SaysTag request tag
+    → NotModified ≡ option_map_or (λ conditions. outcome_of_verdict (precondition_verdict conditions (Some tag) true true)) said Unreadable → SaysTag request tag
 says_tag request tag None reads h = let z : NotModified ≡ Unreadable = h in absurd cc
 says_tag request tag (Some s) reads h = record {
   value = s.if_none_match;

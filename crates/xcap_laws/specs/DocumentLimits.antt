@@ -1,12 +1,17 @@
--- The limits of documents, in figures. They are this server's own; no standard sets any.
-use Rattle.std.specs.Prelude.{◌≡◌, ◌⊎◌, ℕ, ◌≤◌, List, [], ◌++◌, length, sum_by, encode_utf8_all}
+-- The limits of documents: those of a document in figures, those of all and of one home as they
+-- are given. They are this server's own; no standard sets any.
+use Rattle.std.specs.Prelude.{◌≡◌, ◌⊎◌, ℕ, ◌≤◌, List, [], ◌++◌, length, map, sum_by, encode_utf8_all}
 use Rattle.std.specs.List.{AllByRecursion}
 use Rattle.xml_tree.specs.Print.{document_print}
 use Rattle.xml_tree.specs.Tree.{Tree, height}
+use Rattle.doc_names.specs.declared.doc_id.Home.{Home}
 use Rattle.edit_ops.specs.Notes.{Note}
 use Rattle.edit_ops.specs.DiffOperations.{weight}
 use Rattle.store_core.specs.Contents.{contents_of, stored_document}
+use Rattle.store_core.specs.DocumentChanges.{document_id}
+use Rattle.store_core.specs.HomeLimits.{IsWithin, documents_of_home}
 use Rattle.store_core.specs.State.{Document, State, Version, notes, versions}
+use Rattle.store_core.specs.declared.limits.Limits.{Limits}
 
 -- the number of bytes of a printed document: the length of the bytes themselves, which
 -- `document_len` of usage_docs says as a sum, without spelling them
@@ -32,8 +37,15 @@ pub record IsDocumentWithinLimits (d : Document) : Type 0 where
   pub versions_within : AllByRecursion IsVersionWithinLimits (versions d)
   pub records : AreRetainedRecords (notes d) (stored_document d).notes
 
--- a state: each document, their number, and the bytes of their present versions together
-pub record KeepsLimits (m : State) : Type 0 where
+-- the documents of one home: their number, and the bytes of their present versions together
+pub record IsHomeWithinLimits (limits : Limits) (ds : List Document) : Type 0 where
+  pub few : IsWithin limits.home_documents (length ds)
+  pub room : IsWithin limits.home_bytes (sum_by (λ h. printed_len h.tree) (map stored_document ds))
+
+-- a state: each document, their number, and the bytes of their present versions together; and each
+-- home
+pub record KeepsLimits (limits : Limits) (m : State) : Type 0 where
   pub each : AllByRecursion IsDocumentWithinLimits m.documents
-  pub few : length m.documents ≤ 1000
-  pub room : sum_by (λ h. printed_len h.tree) (contents_of m).documents ≤ 33554432
+  pub few : length m.documents ≤ limits.documents
+  pub room : sum_by (λ h. printed_len h.tree) (contents_of m).documents ≤ limits.bytes
+  pub homes : (home : Home) → IsHomeWithinLimits limits (documents_of_home document_id m.documents home)

@@ -12,12 +12,14 @@ use Rattle.doc_names.proofs.SameIds.{id_exact, ids_apart}
 use Rattle.edit_ops.specs.Changes.{edited}
 use Rattle.edit_ops.specs.declared.change.Change.{Change}
 use Rattle.edit_ops.specs.declared.change.Change.TheVariants.{CreateDocument}
-use Rattle.store_core.specs.DocumentChanges.{ChangeKind, Makes, Edits, change_kind, refusal_of, refusal_of_number, refusal_of_tree, contents_after, find_document, stored_document_after, stored_id, refusal_if, other_addresses, total_len_of_others, first_taken_address, without_document}
+use Rattle.store_core.specs.DocumentChanges.{ChangeKind, Makes, Edits, Removes, change_kind, refusal_of, refusal_of_home, refusal_of_number, refusal_of_tree, refusal_in_store, contents_after, contents_after_by_kind, find_document, stored_document_after, stored_id, refusal_if, other_addresses, total_len_of_others, first_taken_address, without_document}
 use Rattle.store_core.specs.Contents.{StoredDocument, Represents, stored_document, StoreContents as Content}
 use Rattle.store_core.specs.ValidStates.{AreDistinct, IsValidState, document_addresses}
 use Rattle.store_core.specs.State.{Document, State}
 use Rattle.store_core.specs.declared.refusal.StoreRefusal.{StoreRefusal}
-use Rattle.store_core.specs.declared.refusal.StoreRefusal.TheVariants.{ServiceTaken, TooLarge, TooMany, StoreFull}
+use Rattle.store_core.specs.declared.refusal.StoreRefusal.TheVariants.{ServiceTaken, TooLarge, TooMany, StoreFull, HomeTooMany, HomeFull}
+use Rattle.store_core.specs.declared.limits.Limits.{Limits}
+use Rattle.store_core.specs.HomeLimits.{documents_of_home, is_above}
 use Rattle.store_core.proofs.HeldAfter.{by_act, with}
 use Rattle.xcap_machine.specs.WriteEffects.{name_and_tree, named_trees}
 use Rattle.xcap_machine.specs.Resources.{version_of}
@@ -40,19 +42,39 @@ both_none : {A : Type 0} (a b : Option A) → a ≡ None → b ≡ None → or_e
 both_none None b p q = q
 both_none (Some x) b p q = let z : Some x ≡ None = p in cc
 
-pub let_in_again : (c d : Content) (id : DocId) (is_new : Bool) (t : Tree) → without_document stored_id d.documents id ≡ without_document stored_id c.documents id → refusal_of_tree c id is_new t ≡ None → refusal_of_tree d id false t ≡ None
-let_in_again c d id is_new t others h =
+pub let_in_again : (c d : Content) (id : DocId) (is_new : Bool) (t : Tree) → d.limits ≡ c.limits → without_document stored_id d.documents id ≡ without_document stored_id c.documents id → refusal_of_tree c id is_new t ≡ None → refusal_of_tree d id false t ≡ None
+let_in_again c d id is_new t limits others h =
     let addresses : other_addresses d id ≡ other_addresses c id = ap (λ (l : List StoredDocument). flat_map (λ h. document_addresses h.id.auid h.tree) l) others in
     let lengths : total_len_of_others d id ≡ total_len_of_others c id = ap (λ (l : List StoredDocument). sum_by (λ h. document_len h.tree) l) others in
     let first : List (List ℕ) → Option StoreRefusal = λ us. option_map (λ clash. ServiceTaken clash) (first_taken_address us (document_addresses id.auid t)) in
     let second : Option StoreRefusal = refusal_if (nat_lt 262144 (document_len t)) (TooLarge (min (document_len t) 18446744073709551615)) in
-    let third : Option StoreRefusal = refusal_if (is_new && nat_le 1000 (length c.documents)) TooMany in
-    let fourth : ℕ → Option StoreRefusal = λ n. refusal_if (nat_lt 33554432 (n + document_len t)) (StoreFull (n + document_len t)) in
-    let a = none_both (first (other_addresses c id)) (or_else second (or_else third (fourth (total_len_of_others c id)))) h in
-    let b = none_both second (or_else third (fourth (total_len_of_others c id))) a.1 in
-    let e = none_both third (fourth (total_len_of_others c id)) b.1 in
-    both_none (first (other_addresses d id)) (or_else second (or_else (refusal_if (false && nat_le 1000 (length d.documents)) TooMany) (fourth (total_len_of_others d id)))) (ap first addresses ∙ a.0)
-    (both_none second (or_else (refusal_if (false && nat_le 1000 (length d.documents)) TooMany) (fourth (total_len_of_others d id))) b.0 (ap fourth lengths ∙ e.1))
+    let third : Option StoreRefusal = refusal_if (is_new && nat_le c.limits.documents (length c.documents)) TooMany in
+    let fourth : ℕ → ℕ → Option StoreRefusal = λ most n. refusal_if (nat_lt most (n + document_len t)) (StoreFull (n + document_len t)) in
+    let own : Limits → List StoredDocument → Option StoreRefusal = λ l hs.
+    or_else (refusal_if (is_above l.home_documents (length (documents_of_home stored_id hs id.home) + 1)) HomeTooMany)
+    (refusal_if (is_above l.home_bytes (sum_by (λ h. document_len h.tree) (documents_of_home stored_id hs id.home) + document_len t)) (HomeFull (sum_by (λ h. document_len h.tree) (documents_of_home stored_id hs id.home) + document_len t))) in
+    let home : refusal_of_home d id t ≡ refusal_of_home c id t =
+    ap (λ (l : Limits). own l (without_document stored_id d.documents id)) limits ∙ ap (λ (hs : List StoredDocument). own c.limits hs) others in
+    let room : fourth d.limits.bytes (total_len_of_others d id) ≡ fourth c.limits.bytes (total_len_of_others c id) =
+    ap (λ (l : Limits). fourth l.bytes (total_len_of_others d id)) limits ∙ ap (fourth c.limits.bytes) lengths in
+    let all = none_both (refusal_in_store c id is_new t) (refusal_of_home c id t) h in
+    let a = none_both (first (other_addresses c id)) (or_else second (or_else third (fourth c.limits.bytes (total_len_of_others c id)))) all.0 in
+    let b = none_both second (or_else third (fourth c.limits.bytes (total_len_of_others c id))) a.1 in
+    let e = none_both third (fourth c.limits.bytes (total_len_of_others c id)) b.1 in
+    let none : Option StoreRefusal = refusal_if (false && nat_le d.limits.documents (length d.documents)) TooMany in
+    both_none (refusal_in_store d id false t) (refusal_of_home d id t)
+    (both_none (first (other_addresses d id)) (or_else second (or_else none (fourth d.limits.bytes (total_len_of_others d id)))) (ap first addresses ∙ a.0)
+    (both_none second (or_else none (fourth d.limits.bytes (total_len_of_others d id))) b.0 (room ∙ e.1)))
+    (home ∙ all.1)
+
+-- no change changes the limits
+pub same_limits : (c : Content) (id : DocId) (change : Change) (act : ChangeKind) → change_kind change ≡ act → (contents_after c id change).limits ≡ c.limits
+same_limits c id change act is = ap (λ (x : Content). x.limits) (sym (by_act c id change act is)) ∙ by act
+  where
+    by : (act : ChangeKind) → (contents_after_by_kind c id change act).limits ≡ c.limits
+    by (Makes root) = refl
+    by Edits = refl
+    by Removes = refl
 
 -- the tree that a change leaves was accepted
 pub edit_let_in : (c : Content) (id : DocId) (change : Change) (h : StoredDocument) → change_kind change ≡ Edits → find_document stored_id c.documents id ≡ Some h → refusal_of c id change (find_document stored_id c.documents id) (change_kind change) ≡ None

@@ -43,7 +43,7 @@ use Rattle.xcap_machine.specs.inner.AnswerCases.{PutsNodeIfStored, PutsNodeOfVer
 use Rattle.xcap_machine.specs.inner.RecordValues.{accepted_put, server_state, node_write}
 use Rattle.xcap_machine.proofs.AcceptedRequests.{Accepts, DocumentPut, Enters, HeldPut, NodePut, StoreMade, accepted, by_target, delete_enters, document_deleted, document_put, no_bindings, node_deleted, node_put, of_element, of_value, put_again_enters, put_enters, stopped_never, store_made}
 use Rattle.store_core.proofs.HeldAfter.{edited_there, made_there, new_held, removed_there, same_others, same_others_more}
-use Rattle.xcap_machine.proofs.After.{edit_let_in, let_in_again, make_let_in, names_apart, seen_at, unseen_at}
+use Rattle.xcap_machine.proofs.After.{edit_let_in, let_in_again, make_let_in, names_apart, same_limits, seen_at, unseen_at}
 use Rattle.xcap_machine.proofs.PutPremises.{held_at}
 use Rattle.xcap_machine.proofs.Steps.{step_of}
 use Rattle.xcap_machine.proofs.Twice.{document_again, element_again, leaves_trees, same_place, value_again}
@@ -102,7 +102,7 @@ module _ (c : Content) (id : DocId) (made : MadeChange) where
         there = edited_there c id change h.0 acts h.1;
         tree = ap (λ (x : Tree). edited x change) h.2;
         numbered = sym s.number;
-        let_in = let_in_again c (contents_after c id change) id false (edited t change) (same_others c id change acts) (subst (λ (x : Tree). refusal_of_tree c id false (edited x change) ≡ None) h.2 let_in);
+        let_in = let_in_again c (contents_after c id change) id false (edited t change) (same_limits c id change Edits acts) (same_others c id change acts) (subst (λ (x : Tree). refusal_of_tree c id false (edited x change) ≡ None) h.2 let_in);
       }
 
   now_made : (t : Tree) → find_document stored_id c.documents id ≡ None → StoreMade c id (CreateDocument t) made → Now (contents_after c id (CreateDocument t)) id t made.1.next
@@ -111,7 +111,7 @@ module _ (c : Content) (id : DocId) (made : MadeChange) where
     there = made_there c id t none;
     tree = refl;
     numbered = sym s.number;
-    let_in = let_in_again c (contents_after c id (CreateDocument t)) id true t (same_others_more c id t) (make_let_in c id t s.unrefused);
+    let_in = let_in_again c (contents_after c id (CreateDocument t)) id true t refl (same_others_more c id t) (make_let_in c id t s.unrefused);
   }
 
   -- a document that was put, whether it is new or not

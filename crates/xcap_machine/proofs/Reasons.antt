@@ -101,6 +101,8 @@ module _ (request : Request) (a : Answer) where
     by_store (Err (refusals.TooLarge len)) is = fine _ refl is
     by_store (Err refusals.TooMany) is = fine _ refl is
     by_store (Err (refusals.StoreFull total)) is = fine _ refl is
+    by_store (Err refusals.HomeTooMany) is = fine _ refl is
+    by_store (Err (refusals.HomeFull total)) is = fine _ refl is
     by_store (Err refusals.NoNumber) is = fine _ refl is
     by_store (Ok (note, next)) is = subst (λ (x : Answer). Fine x) (sym is) (other note)
 

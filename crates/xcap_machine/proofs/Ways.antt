@@ -135,6 +135,8 @@ module _ (method : Method) (c : Content) (request : Request) (a : Answer) where
   store_refuses (refusals.TooLarge len) is = refuses _ refl refl refl is
   store_refuses refusals.TooMany is = refuses _ refl refl refl is
   store_refuses (refusals.StoreFull total) is = refuses _ refl refl refl is
+  store_refuses refusals.HomeTooMany is = refuses _ refl refl refl is
+  store_refuses (refusals.HomeFull total) is = refuses _ refl refl refl is
   store_refuses refusals.NoNumber is = refuses _ refl refl refl is
 
   -- a change that may be asked for, where each reply to one that is made reports it

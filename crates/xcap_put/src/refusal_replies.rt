@@ -14,7 +14,7 @@ use store_core::StoreRefusal;
 use usage_docs::{Clash, Fault};
 
 // The reply where another document has a service address.
-fn taken_address_reply(alloc: Global, clash: Clash, closes: bool) -> Result<Reply, AllocError>
+fn uniqueness_failure_reply(alloc: Global, clash: Clash, closes: bool) -> Result<Reply, AllocError>
     ensures ok { IfOk result
         (λ reply. reply ≡ error_reply (conflicts.Unique (clash_field clash)) closes) }
 {
@@ -31,10 +31,12 @@ pub(crate) fn refusal_reply(
     ensures ok { IfOk result (λ reply. reply ≡ refusal_reply refusal closes) }
 {
     match refusal {
-        StoreRefusal::ServiceTaken(clash) => taken_address_reply(alloc, clash, closes),
+        StoreRefusal::ServiceTaken(clash) => uniqueness_failure_reply(alloc, clash, closes),
         StoreRefusal::TooLarge(_) => Ok(Reply::fixed(507, closes)),
         StoreRefusal::TooMany => Ok(Reply::fixed(507, closes)),
         StoreRefusal::StoreFull(_) => Ok(Reply::fixed(507, closes)),
+        StoreRefusal::HomeTooMany => Ok(Reply::fixed(507, closes)),
+        StoreRefusal::HomeFull(_) => Ok(Reply::fixed(507, closes)),
         StoreRefusal::NoNumber => Ok(Reply::fixed(507, closes)),
     }
 }

@@ -1,6 +1,7 @@
 pub mod DecisionAnswers
 pub mod Dispatch
 pub mod DurableServers
+pub mod DurableSteps
 pub mod HallSimulations
 pub mod KnownBytes
 pub mod LentAnswers

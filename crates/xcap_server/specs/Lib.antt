@@ -1,3 +1,4 @@
+pub mod DurableSteps
 pub mod LoggedServers
 pub mod ReplayedRequests
 pub mod RestartedServers

@@ -1,8 +1,9 @@
 //! The server over a hall: many connections that are open at once.
-ghost use Rattle.std.specs.Prelude.{◌≡◌, ◌+◌, ◌≤◌, List, length};
+ghost use Rattle.std.specs.Prelude.{◌≡◌, ℕ, ◌+◌, ◌≤◌, List, length};
 ghost use Rattle.hall_serve.specs.Exchanges.{Exchange};
 ghost use Rattle.hall_serve.specs.Seats.{MatchesSeats};
-ghost use Rattle.hall_serve.specs.ServedHalls.{AnswersKnocks, HasHallStop, HasServed, ServesOn};
+ghost use Rattle.hall_serve.specs.ServedHalls.{AnswersKnocks, HasHallStop, HasServed, MakesTurns};
+ghost use Rattle.hall_serve.specs.ServedHalls.{ServesOn};
 ghost use Rattle.http_serve.specs.ReplyBytes.{StepsInBytes};
 ghost use Rattle.store_core.specs.Contents.{Represents};
 ghost use Rattle.store_core.specs.ValidStates.{IsValidState};
@@ -17,9 +18,13 @@ use watchers::Watchers;
 
 /// Serves the connections of a hall, of which at most `count` more begin, in at most `turns` turns.
 /// There is one order of all requests on all connections, in which the machine of the root comes
-/// from each valid state to the next; watchers are notified of each change before a byte of its
-/// reply is written; and no connection waits for another. Bytes that are no request get their fixed
-/// reply, and a request for which memory runs out gets the fixed 503; both close.
+/// from each valid state to the next, and the watchers are notified of exactly the changes of that
+/// order. Each time that a connection is reported ready, something is done for it, unless memory
+/// runs out. The connections are served in turns (`turns`), each of which waits once, and offers a
+/// place exactly where more connections are taken and a seat is free. A turn that writes bytes
+/// neither answers a request nor notifies of a change: so watchers are notified of a change before
+/// a byte of its reply is written. Bytes that are no request get their fixed reply, and a request
+/// for which memory runs out gets the fixed 503; both close.
 pub fn serve_hall<H: Hall, W: Watchers<Edit>>(
     server: &mut Server,
     hall: &mut H,
@@ -46,6 +51,21 @@ pub fn serve_hall<H: Hall, W: Watchers<Edit>>(
           seats = seats.new;
           watchers = watchers.new;
         }) }
+    ensures turns { (made : ℕ) × MakesTurns W.keeps
+        (length (H.state hall.old).connections + count) made
+        (record {
+          machine = server.old;
+          hall = H.state hall.old;
+          seats = seats.old;
+          watchers = watchers.old;
+        })
+        (record {
+          machine = server.new;
+          hall = H.state hall.new;
+          seats = seats.new;
+          watchers = watchers.new;
+        }) }
+    ensures same_number { length seats.new ≡ length seats.old }
     ensures seats_match { MatchesSeats (H.state hall.new) seats.new }
     ensures at_most { result.connections ≤ count }
     ensures knocks { AnswersKnocks (H.state hall.old) (H.state hall.new) }

@@ -12,6 +12,7 @@
 //! A target outside the root is answered 404 without allocation.
 #![tactic(auto)]
 
+mod durable_server;
 mod durable_service;
 mod hall_server;
 mod laws;
@@ -26,10 +27,11 @@ mod service;
 mod standard_server;
 mod targets;
 
+pub use durable_server::answer_durably;
 pub use hall_server::serve_hall;
 pub use http_serve::{CloseReason, MachineReply, ServeSummary, StopReason};
 pub use laws::all_bytes_count;
 pub use logged_server::{answer_logged, serve_port_logged};
-pub use restart_laws::{journals_of_servers_come_to_a_state, servers_come_back_from_first_bytes};
+pub use restart_laws::{journals_restore_a_state, servers_come_back_from_first_bytes};
 pub use server::{Server, answer, answer_reading, serve_connection, serve_port};
 pub use standard_server::StandardServer;

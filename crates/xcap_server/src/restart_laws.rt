@@ -44,7 +44,7 @@ pub fn servers_come_back_from_first_bytes()
 /// bytes of it are first bytes of the text of requests at each of which the machine makes a
 /// change: those requests and, only where the log is torn, at most one more, which would be
 /// accepted now.
-pub fn journals_of_servers_come_to_a_state()
+pub fn journals_restore_a_state()
     ensures reaches_state { (server : ServerState) (log : LogState) (journal : JournalState)
         (requests : List Request) (bytes : List ℕ)
         → LogsRequests server log journal requests → IsPrefixOf bytes journal.held

@@ -1,9 +1,10 @@
 //! The server: the documents under a root, which connections read and change.
-ghost use Rattle.std.specs.Prelude.{◌≡◌, ◌≤◌, [], None, IsOk, IfOk, OnErr};
+ghost use Rattle.std.specs.Prelude.{◌≡◌, ◌≤◌, None, IsOk, IfOk, OnErr};
 ghost use Rattle.xcap_uri.specs.Targets.{rest_under_root};
 ghost use Rattle.store_core.specs.State.{State};
 ghost use Rattle.store_core.specs.Contents.{HasDocumentsOf, Represents};
-ghost use Rattle.store_core.specs.ValidStates.{IsValidState};
+ghost use Rattle.store_core.specs.Contents.{first_contents, first_contents_within};
+ghost use Rattle.store_core.specs.ValidStates.{AreCountable, IsValidState};
 ghost use Rattle.xcap_machine.specs.WriteEffects.{DeleteTargetIsGone, EditKeepsKeyAddresses};
 ghost use Rattle.xcap_machine.specs.WriteEffects.{PutTargetExists};
 ghost use Rattle.xcap_machine.specs.WriteEffects.{RepeatedPutPreservesTrees};
@@ -23,7 +24,7 @@ use http_serve::{
 use http_wire::{LentReply, Request};
 use std::alloc::{AllocError, Global};
 use std::marker::Model;
-use store_core::Store;
+use store_core::{Limits, Store};
 use watchers::Watchers;
 use xcap_io::{Port, Sink, Source};
 use xcap_uri::Root;
@@ -42,18 +43,19 @@ impl Model for Server {
     ghost use Rattle.xml_tree.specs.inner.TreeCodes.{tree_code};
     ghost use Rattle.doc_names.specs.contracts.doc_id.DocId as d;
     ghost use Rattle.edit_ops.specs.contracts.change.Change as c;
+    ghost use Rattle.store_core.specs.contracts.limits.Limits as l;
 
     ghost Value = { ServerState };
 
-    ghost coded = { Prim.hlevel (codes, tree_code, d.the_row.coded, c.the_row.coded) };
+    ghost coded = { Prim.hlevel (codes, tree_code, d.the_row.coded, c.the_row.coded, l.the_row.coded) };
 
     ghost view = { λ s. s.service };
 }
 
 impl Server {
-    /// A server without documents under this root, whose first change gets the number `first`. It
-    /// reserves the memory of all its connections, except for their requests, replies and
-    /// documents, which are allocated from `alloc` later.
+    /// A server without documents under this root and the default limits, whose first change gets
+    /// the number `first`. It reserves the memory of all its connections, except for their
+    /// requests, replies and documents, which are allocated from `alloc` later.
     ///
     /// # Errors
     /// `AllocError` when out of memory.
@@ -61,10 +63,29 @@ impl Server {
         requires positive { 1 ≤ first }
         ensures given_root { IfOk result (λ server. server.root ≡ root.now) }
         ensures without_documents { IfOk result
-            (λ server. server.content ≡ record { documents = []; next = first }) }
+            (λ server. server.content ≡ first_contents first) }
+    {
+        Server::within(alloc, root, first, Limits::usual())
+    }
+
+    /// A server without documents under this root, as `new` makes it, under these limits.
+    ///
+    /// # Errors
+    /// `AllocError` when out of memory.
+    pub fn within(
+        alloc: Global,
+        root: &Root,
+        first: u64,
+        limits: Limits,
+    ) -> Result<Server, AllocError>
+        requires positive { 1 ≤ first }
+        requires limits_countable { AreCountable limits }
+        ensures given_root { IfOk result (λ server. server.root ≡ root.now) }
+        ensures without_documents { IfOk result
+            (λ server. server.content ≡ first_contents_within limits first) }
     {
         let buffers = ConnectionBuffers::new(alloc)?;
-        let service = Service::new(alloc, root, first)?;
+        let service = Service::within(alloc, root, first, limits)?;
         Ok(Server { service, buffers })
     }
 

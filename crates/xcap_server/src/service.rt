@@ -1,9 +1,9 @@
 // The documents under a root, as a machine that answers requests.
-ghost use Rattle.std.specs.Prelude.{◌≡◌, ◌≤◌, [], None, IsOk, IfOk, OnErr};
+ghost use Rattle.std.specs.Prelude.{◌≡◌, ◌≤◌, None, IsOk, IfOk, OnErr};
 ghost use Rattle.xcap_uri.specs.Roots.{IsRoot, authority_of, path_of};
 ghost use Rattle.xcap_uri.specs.Targets.{rest_under_root};
-ghost use Rattle.store_core.specs.Contents.{Represents};
-ghost use Rattle.store_core.specs.ValidStates.{IsValidState};
+ghost use Rattle.store_core.specs.Contents.{Represents, first_contents_within};
+ghost use Rattle.store_core.specs.ValidStates.{AreCountable, IsValidState};
 ghost use Rattle.store_core.specs.State.{State};
 ghost use Rattle.xcap_machine.specs.Machine.{answer_with_edit, content_after_answer};
 ghost use Rattle.xcap_get.specs.LentReplies.{LendsFoundReply};
@@ -17,7 +17,7 @@ use http_serve::{Machine, MachineReply};
 use http_wire::{LentReply, Request};
 use std::alloc::{AllocError, Global};
 use std::marker::Model;
-use store_core::Store;
+use store_core::{Limits, Store};
 use xcap_put::Decision;
 use xcap_uri::{Root, roots_are_spelled_by_the_grammar};
 
@@ -35,23 +35,30 @@ impl Model for Service {
     ghost use Rattle.xml_tree.specs.inner.TreeCodes.{tree_code};
     ghost use Rattle.doc_names.specs.contracts.doc_id.DocId as d;
     ghost use Rattle.edit_ops.specs.contracts.change.Change as c;
+    ghost use Rattle.store_core.specs.contracts.limits.Limits as l;
 
     ghost Value = { ServerState };
 
-    ghost coded = { Prim.hlevel (codes, tree_code, d.the_row.coded, c.the_row.coded) };
+    ghost coded = { Prim.hlevel (codes, tree_code, d.the_row.coded, c.the_row.coded, l.the_row.coded) };
 
     ghost view = { λ s. record { root = s.root; content = s.store.content } };
 }
 
 impl Service {
-    pub(crate) fn new(alloc: Global, root: &Root, first: u64) -> Result<Service, AllocError>
+    pub(crate) fn within(
+        alloc: Global,
+        root: &Root,
+        first: u64,
+        limits: Limits,
+    ) -> Result<Service, AllocError>
         requires positive { 1 ≤ first }
+        requires limits_countable { AreCountable limits }
         ensures given_root { IfOk result (λ service. service.root ≡ root.now) }
         ensures without_documents { IfOk result
-            (λ service. service.content ≡ record { documents = []; next = first }) }
+            (λ service. service.content ≡ first_contents_within limits first) }
     {
         let root = root.copy(alloc)?;
-        let store = Store::new(alloc, first)?;
+        let store = Store::within(alloc, first, limits)?;
         Ok(Service { alloc, root, store })
     }
 

@@ -33,4 +33,4 @@ pub use laws::{
 pub use name_laws::printed_names_name_their_documents;
 pub use numerals::parse_numeral;
 pub use root::{Root, read_root};
-pub use target::{Mode, Target, read_target};
+pub use target::{Mode, Target, read_target, rest_under_root};

@@ -83,8 +83,9 @@ fn path_octets(root: &Root) -> &[u8]
     root.path().as_bytes()
 }
 
-// What comes after the root, or its path, and a slash.
-fn rest_under_root<'a>(root: &Root, target: &'a [u8]) -> Option<&'a [u8]>
+/// What comes after the root, or its path, and a slash, if the target begins with them. Does not
+/// allocate.
+pub fn rest_under_root<'a>(root: &Root, target: &'a [u8]) -> Option<&'a [u8]>
     ensures exact { option_map (λ x. x.now) result ≡ rest_under_root root.now target.now }
 {
     match strip_front_and_slash(target, text_octets(root)) {

@@ -16,7 +16,7 @@ use std::rt::Env;
 use std::time::{Clock, Duration, SystemTime, UNIX_EPOCH};
 use std::{env, io};
 use watchers::Audit;
-use xcap_app::{hosted_connections, start};
+use xcap_app::{connections_of_host, start};
 use xcap_io::{StdSink, StdSource, TcpPeer, TcpPort};
 
 // When a connection's time is up.
@@ -100,7 +100,7 @@ fn start_host(rt: &HostRuntime, words: Vec<String>, places: usize) -> u8 {
 
 fn main(rt: HostRuntime) -> ExitCode {
     let status = match command_line_words(&rt) {
-        Some(words) => match hosted_connections(&words) {
+        Some(words) => match connections_of_host(&words) {
             0 => start_with_hall(&rt, Some(words), &mut empty_hall(&rt)),
             places => start_host(&rt, words, places),
         },

@@ -101,7 +101,7 @@ fn is_usual_content_char(c: char) -> bool
 }
 
 /// Whether a character is raw in content whatever surrounds it. Most characters are.
-fn is_inner_content_char(c: char) -> bool
+fn is_always_raw_char(c: char) -> bool
     ensures inner_is_raw { IsTrue result → IsTrue (is_raw_char c) }
     ensures no_end { IsTrue result → (93 == c) ≡ false }
 {
@@ -119,7 +119,7 @@ fn skip_at_raw_end<'a>(text: &'a str, first: char, after: &str) -> Option<&'a st
         (drop_while_without is_raw_char cdata_end (chars text.now)
         ≡ drop_while_without is_raw_char cdata_end (chars after.now)) }
 {
-    if is_inner_content_char(first) {
+    if is_always_raw_char(first) {
         return None;
     }
     if let Some(rest) = strip_cdata_end(text) {

@@ -38,13 +38,13 @@ IsU16Between least most bytes value =
     (bytes ≡ to_be_bytes w16 value) × (least ≤ value) × (value ≤ most)
 
 -- a length between two bounds, and that many bytes
-abbrev pub IsBlockBetween : ℕ → ℕ → List ℕ → List ℕ → Type 0
-IsBlockBetween least most bytes value =
+abbrev pub IsBlockOfLength : ℕ → ℕ → List ℕ → List ℕ → Type 0
+IsBlockOfLength least most bytes value =
     (bytes ≡ length_prefixed value) × (least ≤ length value) × (length value ≤ most)
 
 -- likewise, and the bytes are a token
 abbrev pub IsTokenBlock : ℕ → ℕ → List ℕ → List ℕ → Type 0
-IsTokenBlock least most bytes value = IsBlockBetween least most bytes value × IsToken value
+IsTokenBlock least most bytes value = IsBlockOfLength least most bytes value × IsToken value
 
 -- `left` bytes can have `count` fields and a body, and where there are no fields they are no
 -- longer than a body

@@ -2,12 +2,13 @@
 use Rattle.std.specs.Prelude.{◌≡◌, ◌⊎◌, ◌≤◌, ◌+◌, ◌-◌, ℕ, suc, cond, nat_lt, List, [], ◌∷◌, length}
 use Rattle.std.specs.Prelude.{remove, Option, None, Some, Result, Ok, Err, IsTrue}
 use Rattle.std.specs.Option.{ForSome, option_copied}
+use Rattle.node_select.specs.StepSelection.{StepTests}
 use Rattle.node_select.specs.InsertionPoints.{IsLawfulInsertion, IsInsertionPlan}
 use Rattle.doc_names.specs.declared.usages.Usage.{Usage}
 use Rattle.xml_tree.specs.Tree.{Tree, height, child_elements_of}
 use Rattle.xml_tree.specs.declared.tree.Node.TheVariants.{Elem}
 use Rattle.xml_names.specs.declared.limits.TheConstants.{MAX_LEVELS}
-use Rattle.node_select.specs.Selection.{SelectsChild, is_named, is_tested}
+use Rattle.node_select.specs.Selection.{SelectsChild, is_named, is_tested, step_tests}
 use Rattle.node_select.specs.declared.selector.Step.{Step}
 use Rattle.usage_docs.specs.declared.schema_table.ElementKind.{ElementKind}
 use Rattle.usage_docs.specs.declared.schema_table.Key.{Key}
@@ -139,12 +140,15 @@ pub record IsInsertionResult (context : ParentContext) (new : Tree) (q : List �
     (result : Result ℕ EditRefusal) : Type 0 where
   pub gap : Result ℕ EditRefusal
   pub is_chosen : IsInsertionPlan CannotInsert (Faulty Invalid)
-      (IsLawfulInsertion (is_named context.scope context.step)
-      (is_tested context.scope context.step) context.step.position
+      (IsLawfulInsertion (step_tests context.scope context.step)
       (child_elements_of context.element) new)
       (FitsInsertionPoint context.kind context.scope context.element.content new)
       (length (child_elements_of context.element) + 1) gap
   pub then : IsResultOfGapIn (all_children context q) new gap result
+
+-- the tests of the step without its position
+abbrev pub without_position : {A : Type 0} → StepTests A → StepTests A
+without_position step = record { named = step.named; position = None; tested = step.tested }
 
 -- the element passes both tests of the step
 abbrev pub PassesStep : Scope → Step → Tree → Type 0

@@ -6,7 +6,7 @@ use Rattle.doc_names.specs.declared.usages.Usage.{Usage}
 use Rattle.node_select.specs.Selection.{selected_element_path}
 use Rattle.node_select.specs.declared.selector.Selector.{Selector}
 use Rattle.edit_ops.specs.Notes.{Note}
-use Rattle.patch_rules.specs.inner.AppendedElements.{has_no_notes}
+use Rattle.edit_ops.specs.RecordParts.{has_no_notes}
 use Rattle.element_watch.specs.declared.element_states.ElementState.{ElementState}
 use Rattle.element_watch.specs.declared.element_states.ElementState.TheVariants.{Unchanged, Exists}
 use Rattle.element_watch.specs.declared.element_states.ElementState.TheVariants.{Missing}

@@ -2,12 +2,13 @@
 use Rattle.std.specs.Prelude.{◌≡◌, ℕ, List, [], ◌∷◌, ◌++◌, length, map, true, Some, option_map}
 use Rattle.std.specs.List.{AllByRecursion}
 use Rattle.log_entries.specs.Entries.{Entry, FitsEntryForm, entries_bytes}
-use Rattle.folder_log.specs.FileFormat.{part_entry}
+use Rattle.folder_log.specs.declared.entry_kinds.EntryKind.TheVariants.{SnapshotEnd}
+use Rattle.folder_log.specs.FileFormat.{kind_byte, part_entry}
 use Rattle.folder_log.specs.FolderLogs.{LogParts}
 
--- the end of the snapshot: the kind 2; its number is the number of the first change
+-- the end of the snapshot; its number is the number of the first change
 abbrev pub snapshot_end_entry : ℕ → Entry
-snapshot_end_entry number = record { number = number; content = 2 ∷ [] }
+snapshot_end_entry number = record { number = number; content = kind_byte SnapshotEnd ∷ [] }
 
 -- all but the histories, the next number and whether it is torn or stopped
 pub record KeepsMarksAndDraft (old new : LogParts) : Type 0 where

@@ -1,12 +1,7 @@
--- Lists of change records, and elements put after all nodes of another, one after another.
-use Rattle.std.specs.Prelude.{Bool, true, false, List, [], ◌∷◌}
+-- Elements put after all nodes of another, one after another.
+use Rattle.std.specs.Prelude.{List, [], ◌∷◌}
 use Rattle.xml_tree.specs.Edits.{with_elem}
 use Rattle.xml_tree.specs.Tree.{Tree}
-use Rattle.edit_ops.specs.Notes.{Note}
-
-abbrev pub has_no_notes : List Note → Bool
-has_no_notes [] = true
-has_no_notes (n ∷ ns) = false
 
 abbrev pub with_elements : List Tree → Tree → Tree
 with_elements [] t = t

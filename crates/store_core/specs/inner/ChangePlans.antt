@@ -16,7 +16,7 @@ use Rattle.edit_ops.specs.Changes.{FitsTree, edited}
 use Rattle.edit_ops.specs.PrintedLengths.{element_len}
 use Rattle.edit_ops.specs.declared.change.Change.{Change}
 use Rattle.edit_ops.specs.Notes.{Note, note_of}
-use Rattle.store_core.specs.declared.limits.TheConstants.{MAX_DOCUMENT_BYTES, MAX_BYTES_TOGETHER}
+use Rattle.store_core.specs.declared.limits.TheConstants.{MAX_DOCUMENT_BYTES}
 use Rattle.store_core.specs.declared.entry.Entry.{Entry}
 use Rattle.store_core.specs.declared.staged_tree.StagedTree.{StagedTree}
 use Rattle.store_core.specs.declared.step.EntryStep.{EntryStep}
@@ -37,14 +37,15 @@ use Rattle.store_core.specs.PreparedChanges.{ReplacesAddresses, IsPlanned, Prepa
 use Rattle.store_core.specs.PreparedChanges.{total_len}
 
 -- by the index among its services of the first address that another document has; its length;
--- whether one more document would be too many; and the length of the other documents together
-abbrev pub refusal_from_checks : Option ℕ → ℕ → Bool → ℕ → Option StoreRefusal
-refusal_from_checks place len is_full others =
+-- whether one more document would be too many; the length of the other documents together; and the
+-- limit of all lengths together
+abbrev pub refusal_from_checks : Option ℕ → ℕ → Bool → ℕ → ℕ → Option StoreRefusal
+refusal_from_checks place len is_full others most =
     option_or (option_map (λ clash. ServiceTaken clash)
     (option_map (λ i. let clash : Clash = record { path = i ∷ []; key = Uri } in clash) place))
     (option_or (refusal_if (nat_lt MAX_DOCUMENT_BYTES len) (TooLarge len))
     (option_or (refusal_if is_full TooMany)
-    (refusal_if (nat_lt MAX_BYTES_TOGETHER (others + len)) (StoreFull (others + len)))))
+    (refusal_if (nat_lt most (others + len)) (StoreFull (others + len)))))
 
 -- a document is stored with the tree, the etag and the length of this entry
 abbrev pub IsStoredAs : StoreContents → DocId → Entry → Type 0

@@ -12,6 +12,7 @@ use Rattle.usage_docs.specs.Services.{document_len}
 use Rattle.doc_names.specs.declared.doc_id.DocId.{DocId}
 use Rattle.edit_ops.specs.Notes.{Note}
 use Rattle.store_core.specs.declared.entry.Entry.{Entry}
+use Rattle.store_core.specs.declared.limits.Limits.{Limits}
 use Rattle.store_core.specs.State.{State, retained_notes}
 use Rattle.store_core.specs.Contents.{StoredDocument, Represents, StoreContents}
 use Rattle.store_core.specs.ValidStates.{AreDistinct, IsValidState, document_addresses}
@@ -22,9 +23,10 @@ use Rattle.store_core.specs.ValidStates.{AreDistinct, IsValidState, document_add
 abbrev pub stored_view : DocId × Entry → StoredDocument
 stored_view e = record { id = e.0; tag = e.1.tag; tree = e.1.tree.root; notes = e.1.notes }
 
--- all documents, and the number after the last one given
-abbrev pub contents_view : List (DocId × Entry) → ℕ → StoreContents
-contents_view es last = record { documents = map stored_view es; next = last + 1 }
+-- all documents, the limits, and the number after the last one given
+abbrev pub contents_view : List (DocId × Entry) → Limits → ℕ → StoreContents
+contents_view es limits last =
+    record { documents = map stored_view es; next = last + 1; limits = limits }
 
 abbrev pub entry_id : DocId × Entry → DocId
 entry_id e = e.0
@@ -101,9 +103,9 @@ registered_after leaves enters number before uri =
 -- ---- the invariant of a store
 
 pub record IsConsistentStore (es : List (DocId × Entry)) (rs : List (List ℕ × ℕ))
-    (last total : ℕ) : Type 0 where
+    (limits : Limits) (last total : ℕ) : Type 0 where
   -- it represents a valid state
-  pub kept : (m : State) × Represents (contents_view es last) m × IsValidState m
+  pub kept : (m : State) × Represents (contents_view es limits last) m × IsValidState m
   -- its registry gives for each address the document that has it
   pub addresses : (uri : List ℕ) → registered_number rs uri ≡ address_holder es uri
   -- each creation has its own number
@@ -113,3 +115,5 @@ pub record IsConsistentStore (es : List (DocId × Entry)) (rs : List (List ℕ �
   pub sum : total ≡ sum_by entry_len es
   -- the stored length of each document is its length
   pub lens : AllByRecursion (λ e. e.1.len ≡ entry_len e) es
+  -- a document without change records has the etag with which it was put
+  pub unedited : AllByRecursion (λ e. e.1.notes ≡ [] → entry_number e ≡ e.1.tag) es

@@ -10,6 +10,7 @@ use Rattle.xml_tree.specs.Print.{rest_of_element, is_empty, print, print_content
 use Rattle.xml_tree.specs.Tree.{Content, last, more, comment_node, Tree, content_height}
 use Rattle.xml_tree.specs.declared.tree.Node.{Node}
 use Rattle.xml_tree.specs.declared.tree.Node.TheVariants.{Elem, Chars, Comment}
+use Rattle.tree_print.specs.declared.parts.TheConstants.{CAPACITY}
 use Rattle.tree_print.specs.declared.parts.Part.{Part}
 use Rattle.tree_print.specs.declared.parts.Part.TheVariants.{Plain, Escaped, Broken, Named, Decls}
 use Rattle.tree_print.specs.declared.parts.Part.TheVariants.{Attrs, Nodes, EndTag, Whole}
@@ -100,7 +101,7 @@ part_room (Whole e) = 1 + nodes_room (content_height e.now.content)
 -- each part, with those below it, has the places that it may take
 abbrev pub HaveRoom : List Part → Type 0
 HaveRoom [] = Unit {0}
-HaveRoom (part ∷ below) = (length below + part_room part ≤ 136) × HaveRoom below
+HaveRoom (part ∷ below) = (length below + part_room part ≤ CAPACITY) × HaveRoom below
 
 -- What is still to come: its characters, how many pieces they are at most, and how many places of
 -- the stack are taken.

@@ -8,7 +8,7 @@ use Rattle.http_serve.specs.ReplyBytes.{StepsInBytes}
 use Rattle.reply_text.specs.ReplyHeads.{SentReply}
 use Rattle.http_wire.specs.declared.request.Request.{Request}
 use Rattle.edit_ops.specs.declared.edit.Edit.{Edit}
-use Rattle.store_core.specs.Contents.{Represents}
+use Rattle.store_core.specs.Contents.{Represents, first_contents}
 use Rattle.store_core.specs.ValidStates.{IsValidState}
 use Rattle.store_core.specs.State.{State}
 use Rattle.xcap_machine.specs.Machine.{ValidStep}
@@ -25,7 +25,7 @@ pub record RecorderState : Type 0 where
 -- the server of the sample's root, without documents and statuses
 abbrev pub new_recorder_state : ℕ → RecorderState
 new_recorder_state room = record {
-  server = record { root = root_text; content = record { documents = []; next = 1 } };
+  server = record { root = root_text; content = first_contents 1 };
   statuses = [];
   room = room;
 }

@@ -3,7 +3,7 @@ use Rattle.xml_names.specs.contracts.text.Text.{the_view}
 use Rattle.std.specs.Borrow.{Bor}
 use Rattle.http_wire.specs.declared.request.Field.{Field}
 use Rattle.http_wire.specs.declared.request.Request.{Request}
-use Rattle.edit_journal.specs.inner.RecordParts.{ReadsPart, IsBlockBetween, IsRestOfContent, IsRecordContent}
+use Rattle.edit_journal.specs.inner.RecordParts.{ReadsPart, IsBlockOfLength, IsRestOfContent, IsRecordContent}
 use Rattle.edit_journal.proofs.Blocks.{behind}
 use Rattle.edit_journal.proofs.Lengths.{block_length}
 use Rattle.edit_journal.proofs.Fields.{stops_with}
@@ -25,7 +25,7 @@ returns-in_err-target c = record {
       let seen : Bor (List ℕ) → List ℕ = λ piece. piece.now in
       stops_with (λ (r : Request). r) (IsRecordContent c.args.len) c.args.bytes.now c.from_residual-in_err-target.result c.in_err-target.field-0.0 c.from_residual-in_err-target.ensures.1
       (content_no_target (λ (r : Request). r) seen c.args.bytes.now e.0 e.1 c.in_ok-method.method c.args.len c.in_err-target.field-0.0 c.requires.lower_bound c.requires.upper_bound e.2 e.3
-      (subst (λ (l : List ℕ). ReadsPart seen (IsBlockBetween 0 (c.args.len - 11)) l (Err c.in_err-target.field-0.0)) tail c.in_err-target.ensures.reads_rule));
+      (subst (λ (l : List ℕ). ReadsPart seen (IsBlockOfLength 0 (c.args.len - 11)) l (Err c.in_err-target.field-0.0)) tail c.in_err-target.ensures.reads_rule));
 }
 
 pub bytes_after-requires-2 : goal.bytes_after-requires-2

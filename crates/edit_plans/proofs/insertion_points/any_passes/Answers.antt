@@ -1,6 +1,6 @@
 use Rattle.std.proofs.Common.{false, refl, add-one, arith}
 use Rattle.xml_tree.specs.Tree.{child_elements_of}
-use Rattle.node_select.specs.Selection.{is_named, is_tested}
+use Rattle.node_select.specs.Selection.{step_tests}
 use Rattle.node_select.proofs.NodeWalks.{at_elem, at_other, at_end, no_element}
 use Rattle.edit_plans.proofs.ParentAnswers.{true_false}
 use Rattle.edit_plans.proofs.SideLemmas.{match_of, none_more, none_at_all}
@@ -13,15 +13,14 @@ returns-then-passes_step c = record {
       let xs = child_elements_of c.args.parent.now.element.now in
       let at = at_elem c.nodes-node-items.result.now c.loop-node.node-index c.loop-node.i xs c.in-Elem.child_element c.node-item.result c.loop-node.invariant.left c.loop-node-test.true c.node-item.is c.in-Elem.is in
       let both = c.passes_step.ensures.exact.0 c.if-passes_step.true in
-      (λ h. (c.loop-node.i, match_of (is_named c.args.parent.now.scope.now c.args.step.now) (is_tested c.args.parent.now.scope.now c.args.step.now) xs c.loop-node.i c.in-Elem.child_element at.0 both.0 both.1), λ h. refl);
+      (λ h. (c.loop-node.i, match_of (step_tests c.args.parent.now.scope.now c.args.step.now) xs c.loop-node.i c.in-Elem.child_element at.0 both.0 both.1), λ h. refl);
 }
 
 pub loop-node-preserved : goal.loop-node-preserved
 loop-node-preserved c =
     let xs = child_elements_of c.args.parent.now.element.now in
     let ns = c.nodes-node-items.result.now in
-    let named = is_named c.args.parent.now.scope.now c.args.step.now in
-    let tested = is_tested c.args.parent.now.scope.now c.args.step.now in
+    let tests = step_tests c.args.parent.now.scope.now c.args.step.now in
     let inv = c.loop-node.invariant in
     elim c.match-node.branch [
       | in-Elem+else-passes_step w ↦
@@ -31,7 +30,7 @@ loop-node-preserved c =
             left = rw (w.i-is, add-one, add-one) at.2;
             within = omega arith;
             small = omega arith;
-            none = none_more named tested xs c.loop-node.i c.match-node.i w.in-Elem.child_element w.i-is at.0 (λ both. true_false w.passes_step.result (w.passes_step.ensures.exact.1 both) w.if-passes_step.false) inv.none;
+            none = none_more tests xs c.loop-node.i c.match-node.i w.in-Elem.child_element w.i-is at.0 (λ both. true_false w.passes_step.result (w.passes_step.ensures.exact.1 both) w.if-passes_step.false) inv.none;
           })
       | in_default w ↦
           (record {
@@ -48,5 +47,5 @@ returns c = record {
       let xs = child_elements_of c.args.parent.now.element.now in
       let inv = c.loop-node.invariant in
       let last = at_end c.nodes-node-items.result.now c.loop-node.node-index c.loop-node.i xs inv.left c.loop-node-test.false inv.within in
-      (λ h. absurd (true_false false h refl), λ m. absurd (none_at_all (is_named c.args.parent.now.scope.now c.args.step.now) (is_tested c.args.parent.now.scope.now c.args.step.now) xs c.loop-node.i last inv.none m));
+      (λ h. absurd (true_false false h refl), λ m. absurd (none_at_all (step_tests c.args.parent.now.scope.now c.args.step.now) xs c.loop-node.i last inv.none m));
 }

@@ -22,5 +22,5 @@ returns-in_default c = record {
 pub returns : goal.returns
 returns c = record {
   exact =
-      marked_by_kind c.args.row c.args.scope.now c.args.child_element.now c.in-Some.own c.args.kind c.args.key (chars c.args.value.now) c.is_kind.result (sym c.kind_of_child.ensures.child_kind ∙ c.in-Some.is) c.requires (c.has_value.ensures.exact.0 c.if-not-has_value.false) c.is_kind.ensures.exact;
+      marked_by_kind c.args.row c.args.scope.now c.args.child_element.now c.in-Some.own c.args.kind c.args.key (chars c.args.value.now) c.same_kind.result (sym c.kind_of_child.ensures.child_kind ∙ c.in-Some.is) c.requires (c.has_value.ensures.exact.0 c.if-not-has_value.false) c.same_kind.ensures.exact;
 }

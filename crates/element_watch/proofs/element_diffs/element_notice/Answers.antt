@@ -1,13 +1,9 @@
 use Rattle.std.proofs.Common.{sym, ap, ◌∙◌}
-use Rattle.edit_ops.specs.RecordParts.{all_notes}
 use Rattle.store_core.specs.ChangesSince.{changes_since_view}
-use Rattle.element_watch.proofs.ElementFindings.{few_of_all}
 use Rattle.element_watch.proofs.element_diffs.element_notice.Goals as goal
 
 pub notice_since-requires-clause-within_max : goal.notice_since-requires-clause-within_max
 notice_since-requires-clause-within_max c =
-    let older = c.in-Changes.notes.older.now in
-    let newer = c.in-Changes.notes.newer.now in
     let kept = c.represents_valid_state.ensures.valid_state in
     let told = sym c.since.ensures.exact ∙ ap changes_since_view c.in-Changes.is in
-    few_of_all older newer (c.notes_since_a_version_lead_from_it.ensures.records_lead_here c.args.store.now.content kept.0 c.args.watch.doc.now c.args.watch.tag (all_notes older newer) kept.2 kept.1 told).few
+    (c.notes_since_a_version_lead_from_it.ensures.records_lead_here c.args.store.now.content kept.0 c.args.watch.doc.now c.args.watch.tag c.in-Changes.notes kept.2 kept.1 told).few

@@ -1,4 +1,4 @@
-use Rattle.std.proofs.Common.{◌≡◌, ◌+◌, ◌-◌, ◌*◌, ◌≤◌, length, refl, ap, arith}
+use Rattle.std.proofs.Common.{◌≡◌, ◌+◌, ◌-◌, ◌*◌, ◌≤◌, length, refl, ap, ◌∙◌, arith}
 use Rattle.std.proofs.lemmas.Bool.{lt-ltb, ltb-true}
 use Rattle.http_serve.specs.ReplyBytes.{StepsInBytes}
 use Rattle.http_serve.proofs.Rooms.{takes_less}
@@ -10,6 +10,7 @@ use Rattle.hall_serve.proofs.serve.serve_hall.Goals as goal
 
 pub turns-init : goal.turns-init
 turns-init g c = record {
+  same_number = refl;
   seats_match = c.requires.seats_match;
   serves_on = no_turn (StepsInBytes g.M.Machine.steps) g.W.Watchers.keeps (record { machine = c.args.machine.now; hall = g.H.Hall.state c.args.hall.now; seats = c.args.seats.now; watchers = c.args.watchers.now }) (g.met.W.Watchers.none _);
   counts = no_count (g.H.Hall.state c.args.hall.now);
@@ -44,11 +45,12 @@ turns-preserved g c =
       | in-NoMemory w ↦ let same = w.connections-is in let b = i.within in omega (arith, same, b)
     ] in
     record {
+      same_number = c.make_turn.ensures.same_number ∙ i.same_number;
       seats_match = c.make_turn.ensures.seats_match;
       serves_on = turns_more (StepsInBytes g.M.Machine.steps) g.W.Watchers.keeps g.met.W.Watchers.more c.turns.memory_failures t c.match-make_turn.memory_failures fails _ _ _ i.serves_on c.make_turn.ensures.serves_on;
       counts = count_more c.turns.connections c.turns._turn c.match-make_turn.connections t whole more _ _ _ _ i.counts c.make_turn.ensures.counts;
       chain = turn_made g.W.Watchers.keeps (length (g.H.Hall.state c.args.hall.now).connections) c.args.count c.turns.connections c.turns._turn _ _ _ c.make_turn.result _ (ltb-true c.turns.connections c.args.count) (lt-ltb c.turns.connections c.args.count) c.turns.invariant.chain c.turns.invariant.counts.begun
-          c.make_turn.ensures.seats_match c.make_turn.ensures.notified_first c.make_turn.ensures.in_order c.make_turn.ensures.counts;
+          c.make_turn.ensures.same_number c.make_turn.ensures.seats_match c.make_turn.ensures.notified_first c.make_turn.ensures.in_order c.make_turn.ensures.counts;
       within = within;
       failures = elim c.match-make_turn.branch [
         | in-Went w ↦ let same = w.memory_failures-is in let b = i.failures in omega (arith, same, b)
@@ -82,12 +84,12 @@ pub returns-in-Over-clause-turns : goal.returns-in-Over-clause-turns
 returns-in-Over-clause-turns g c = (
   c.turns._turn + 1,
   turn_made g.W.Watchers.keeps (length (g.H.Hall.state c.args.hall.now).connections) c.args.count c.turns.connections c.turns._turn _ _ _ c.make_turn.result _ (ltb-true c.turns.connections c.args.count) (lt-ltb c.turns.connections c.args.count) c.turns.invariant.chain c.turns.invariant.counts.begun
-      c.make_turn.ensures.seats_match c.make_turn.ensures.notified_first c.make_turn.ensures.in_order c.make_turn.ensures.counts,
+      c.make_turn.ensures.same_number c.make_turn.ensures.seats_match c.make_turn.ensures.notified_first c.make_turn.ensures.in_order c.make_turn.ensures.counts,
 )
 
 pub returns-in-HallFailed-clause-turns : goal.returns-in-HallFailed-clause-turns
 returns-in-HallFailed-clause-turns g c = (
   c.turns._turn + 1,
   turn_made g.W.Watchers.keeps (length (g.H.Hall.state c.args.hall.now).connections) c.args.count c.turns.connections c.turns._turn _ _ _ c.make_turn.result _ (ltb-true c.turns.connections c.args.count) (lt-ltb c.turns.connections c.args.count) c.turns.invariant.chain c.turns.invariant.counts.begun
-      c.make_turn.ensures.seats_match c.make_turn.ensures.notified_first c.make_turn.ensures.in_order c.make_turn.ensures.counts,
+      c.make_turn.ensures.same_number c.make_turn.ensures.seats_match c.make_turn.ensures.notified_first c.make_turn.ensures.in_order c.make_turn.ensures.counts,
 )

@@ -1,4 +1,4 @@
-use Rattle.std.proofs.Common.{◌+◌, ◌-◌, ◌*◌, ◌≤◌, List, length}
+use Rattle.std.proofs.Common.{◌≡◌, ◌+◌, ◌-◌, ◌*◌, ◌≤◌, List, length}
 use Rattle.http_serve.specs.ReplyBytes.{StepsInBytes}
 use Rattle.hall_serve.specs.Exchanges.{Exchange}
 use Rattle.hall_serve.specs.Seats.{MatchesSeats, requests_left}
@@ -8,6 +8,7 @@ use Rattle.hall_serve.proofs.serve.serve_hall.Given as goal
 
 abbrev pub invariant-turns : goal.invariant-turns
 invariant-turns g l = record {
+  same_number : length l.seats ≡ length l.fn.seats;
   seats_match : MatchesSeats (g.H.Hall.state l.hall) l.seats;
   serves_on : (all : List (Exchange g.row.M-Edit.Denot)) → HasServed (g.H.Hall.state l.fn.hall) l.fn.seats all → ServesOn (StepsInBytes g.M.Machine.steps) g.W.Watchers.keeps all l.memory_failures
       (record { machine = l.fn.machine; hall = g.H.Hall.state l.fn.hall; seats = l.fn.seats; watchers = l.fn.watchers })

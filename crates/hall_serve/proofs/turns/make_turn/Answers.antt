@@ -1,8 +1,8 @@
-use Rattle.std.proofs.Common.{sym, ◌∙◌}
+use Rattle.std.proofs.Common.{None, sym, ◌∙◌}
 use Rattle.http_serve.specs.ReplyBytes.{StepsInBytes}
 use Rattle.hall_serve.specs.Seats.{requests_left}
 use Rattle.hall_serve.proofs.TurnOutcomes.{place_within}
-use Rattle.hall_serve.proofs.TurnResults.{counts_offered, place_offered, failure_done, knock_done, late_done, late_open, none_more, over_done, place_found, quiet_done, ready_begins_none, ready_done, ready_matches, ready_open, takes_knock, takes_late, takes_ready}
+use Rattle.hall_serve.proofs.TurnResults.{counts_offered, place_offered, failure_done, knock_done, knock_same_number, late_done, late_open, none_more, over_done, place_found, quiet_done, ready_begins_none, ready_done, ready_matches, ready_open, ready_same_number, same_number_at, takes_knock, takes_late, takes_ready}
 use Rattle.hall_serve.proofs.turns.make_turn.Goals as goal
 
 pub serve_ready-requires-clause-open : goal.serve_ready-requires-clause-open
@@ -130,3 +130,12 @@ returns-in-Ok-Knock-clause-takes_on g c = let f = place_found c.args.seats.now c
 
 pub returns-in-Ok-Ready-clause-takes_more : goal.returns-in-Ok-Ready-clause-takes_more
 returns-in-Ok-Ready-clause-takes_more g c = λ began. absurd (ready_begins_none (StepsInBytes g.M.Machine.steps) g.W.Watchers.keeps c.serve_ready.result c.in-Ok-Ready.id.place _ _ c.serve_ready.ensures.serves began)
+
+pub returns-in-Ok-Late-clause-same_number : goal.returns-in-Ok-Late-clause-same_number
+returns-in-Ok-Late-clause-same_number g c = same_number_at c.in-Ok-Late.id.place c.args.seats.now _ None c.close_connection.ensures.frees_place
+
+pub returns-in-Ok-Ready-clause-same_number : goal.returns-in-Ok-Ready-clause-same_number
+returns-in-Ok-Ready-clause-same_number g c = ready_same_number (StepsInBytes g.M.Machine.steps) g.W.Watchers.keeps c.serve_ready.result c.in-Ok-Ready.id.place _ _ c.serve_ready.ensures.serves
+
+pub returns-in-Ok-Knock-clause-same_number : goal.returns-in-Ok-Knock-clause-same_number
+returns-in-Ok-Knock-clause-same_number g c = knock_same_number c.place_for_next-free.result c.args.seats.now _ (g.H.Hall.state c.wait.new.self) _ c.accept_next.result c.accept_next.ensures.seats_next

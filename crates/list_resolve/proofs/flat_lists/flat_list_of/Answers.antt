@@ -11,8 +11,8 @@ returns-in_err-walk_inside c = record {
   flat_answer =
       let g = context_view c.args.ground.now in
       let s = scoped_element_view c.args.service.now in
-      let same : content_items (walk_after_mark (resolve_in_context g) g.root 16 c.empty.result) g.root s.kind c.from_scope-scope.result s.element.content ≡ walk (resolve_in_context g) g.root s =
-      ap (λ chain. content_items (walk_after_mark (resolve_in_context g) g.root 16 chain) g.root s.kind c.from_scope-scope.result s.element.content) c.empty.ensures.holds_no_places
+      let same : content_items (walk_after_mark (resolve_in_context g) g.root 16 c.new.result) g.root s.kind c.from_scope-scope.result s.element.content ≡ walk (resolve_in_context g) g.root s =
+      ap (λ chain. content_items (walk_after_mark (resolve_in_context g) g.root 16 chain) g.root s.kind c.from_scope-scope.result s.element.content) c.new.ensures.holds_no_places
       ∙ ap (λ scope. content_items (walk_after_mark (resolve_in_context g) g.root 16 []) g.root s.kind scope s.element.content) c.from_scope-scope.ensures.exact in
       fails_are c.from_residual.result (walk (resolve_in_context g) g.root s) c.new-collector.result.tally c.in_err-walk_inside.field-0.0 (ap (λ (x : CollectorState). x.tally) c.new-collector.ensures.holds_nothing)
       c.from_residual.ensures.1 (subst (λ items. IsWalkFault items c.new-collector.result.tally c.in_err-walk_inside.field-0.0) same c.in_err-walk_inside.ensures.gathers_walk);
@@ -23,8 +23,8 @@ returns c = record {
   flat_answer =
       let g = context_view c.args.ground.now in
       let s = scoped_element_view c.args.service.now in
-      let same : content_items (walk_after_mark (resolve_in_context g) g.root 16 c.empty.result) g.root s.kind c.from_scope-scope.result s.element.content ≡ walk (resolve_in_context g) g.root s =
-      ap (λ chain. content_items (walk_after_mark (resolve_in_context g) g.root 16 chain) g.root s.kind c.from_scope-scope.result s.element.content) c.empty.ensures.holds_no_places
+      let same : content_items (walk_after_mark (resolve_in_context g) g.root 16 c.new.result) g.root s.kind c.from_scope-scope.result s.element.content ≡ walk (resolve_in_context g) g.root s =
+      ap (λ chain. content_items (walk_after_mark (resolve_in_context g) g.root 16 chain) g.root s.kind c.from_scope-scope.result s.element.content) c.new.ensures.holds_no_places
       ∙ ap (λ scope. content_items (walk_after_mark (resolve_in_context g) g.root 16 []) g.root s.kind scope s.element.content) c.from_scope-scope.ensures.exact in
       let all : c.walk_inside.new.collector.tally ≡ with_items empty_tally (walk (resolve_in_context g) g.root s) =
       c.in_ok-walk_inside.ensures.gathers_walk.0 ∙ ap (with_items c.new-collector.result.tally) same

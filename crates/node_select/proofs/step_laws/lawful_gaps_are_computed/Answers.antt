@@ -7,5 +7,5 @@ returns g c = record {
   lawful_iff = lawful_is;
   gaps_are_interval = lawful_between;
   gaps_are_alike = lawful_anywhere;
-  put_again = λ named tested position child_elements new gap le l. (l, set-insert child_elements gap new le);
+  put_again = λ step child_elements new gap le l. (l, set-insert child_elements gap new le);
 }

@@ -5,5 +5,5 @@ pub returns : goal.returns
 returns g c = record {
   answer_is_one = one_selected;
   computed_path = selected_is;
-  position_from_one = λ named tested child_elements i s. no_zeroth named tested child_elements i s.this;
+  position_from_one = λ step child_elements i is s. no_zeroth step child_elements i is s.this;
 }

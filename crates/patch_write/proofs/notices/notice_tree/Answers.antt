@@ -1,6 +1,5 @@
 use Rattle.std.proofs.Common.{ℕ, List, [], ap, ◌∙◌}
 use Rattle.xml_tree.specs.Tree.{Tree}
-use Rattle.edit_ops.specs.RecordParts.{all_notes}
 use Rattle.patch_rules.specs.Notices.{diff}
 use Rattle.patch_rules.specs.inner.AppendedElements.{with_elements}
 use Rattle.patch_write.specs.inner.Modes.{mode_documents}
@@ -11,6 +10,6 @@ returns c = record {
   ok =
       let p = c.args.names.now.prefix in
       c.in_ok-push_documents.ensures.ok
-      ∙ ap (λ (t : Tree). with_elements (mode_documents c.args.mode p c.args.names.now.sel c.args.from (all_notes c.args.notes.older.now c.args.notes.newer.now)) t)
+      ∙ ap (λ (t : Tree). with_elements (mode_documents c.args.mode p c.args.names.now.sel c.args.from c.args.notes.now) t)
       (c.in_ok-notice.ensures.notice_without_documents ∙ ap (λ (r : List ℕ). diff p r []) c.text.ensures.exact);
 }

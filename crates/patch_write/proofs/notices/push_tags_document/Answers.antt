@@ -1,5 +1,4 @@
 use Rattle.std.proofs.Common.{ℕ, [], ap, ◌∙◌}
-use Rattle.edit_ops.specs.RecordParts.{all_notes as joined}
 use Rattle.patch_rules.specs.Notices.{document}
 use Rattle.patch_write.proofs.Built.{tags_told}
 use Rattle.patch_write.proofs.notices.push_tags_document.Goals as goal
@@ -9,6 +8,6 @@ returns c = record {
   ok =
       let p = c.args.names.now.prefix in
       let sel = c.args.names.now.sel in
-      tags_told p sel c.args.from (joined c.args.notes.older.now c.args.notes.newer.now) c.in_ok-made.made c.args.notice.now c.push_elem.new.self c.requires
+      tags_told p sel c.args.from c.args.notes.now c.in_ok-made.made c.args.notice.now c.push_elem.new.self c.requires
       (c.in_ok-made.ensures.ok ∙ ap (λ (to : ℕ). document p sel c.args.from to []) c.last_tag_of_notes-to.ensures.exact) c.in_ok-push_elem.ensures.adds_element;
 }

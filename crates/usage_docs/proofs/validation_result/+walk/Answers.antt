@@ -105,11 +105,11 @@ walk_node-returns-in-Elem t c =
     let row = c.args.row in
     let scope = c.args.scope.now in
     let old = c.args.passed.now in
-    let new = c.walk_child.new.passed in
+    let new = c.validate_child.new.passed in
     let found = c.args.found.now in
-    let next = c.walk_child.new.found in
+    let next = c.validate_child.new.found in
     let is = sym c.in-Elem.is in
-    let done = c.walk_child.ensures in
+    let done = c.validate_child.ensures in
     record {
       valid_with_node = subst (λ (n : Node). (And next.valid found.valid (IsNodeValid row scope old.part n))) is done.valid_with_child;
       formed_with_node = subst (λ (n : Node). (And next.formed found.formed (IsFormedNode row scope n))) is done.formed_with_child;
@@ -158,8 +158,8 @@ walk_node-returns-in-Comment t c =
 
 -- ---- a child
 
-pub walk_child-returns : goal.walk_child-returns
-walk_child-returns t c =
+pub validate_child-returns : goal.validate_child-returns
+validate_child-returns t c =
     let row = c.args.row in
     let scope = c.args.scope.now in
     let trail = c.args.trail.now in

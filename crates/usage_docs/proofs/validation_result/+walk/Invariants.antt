@@ -16,8 +16,8 @@ decreases-walk_inside l = 4 * height l.element.now
 abbrev pub decreases-walk_node : goal.decreases-walk_node
 decreases-walk_node l = 4 * node_height l.node.now + 3
 
-abbrev pub decreases-walk_child : goal.decreases-walk_child
-decreases-walk_child l = 4 * height l.child_element.now + 2
+abbrev pub decreases-validate_child : goal.decreases-validate_child
+decreases-validate_child l = 4 * height l.child_element.now + 2
 
 abbrev pub decreases-walk_if_kind : goal.decreases-walk_if_kind
 decreases-walk_if_kind l = 4 * height l.element.now + 1

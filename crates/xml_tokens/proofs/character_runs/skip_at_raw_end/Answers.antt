@@ -10,14 +10,14 @@ use Rattle.xml_tokens.proofs.character_runs.skip_at_raw_end.Goals as goal
 no_section : (text cs : List ℕ) (c : ℕ) → text ≡ c ∷ cs → (93 == c) ≡ false → starts_with_word cdata_end text ≡ false
 no_section text cs c is other = ap (starts_with_word cdata_end) is ∙ rw other refl
 
-pub returns-then-is_inner_content_char : goal.returns-then-is_inner_content_char
-returns-then-is_inner_content_char c =
+pub returns-then-is_always_raw_char : goal.returns-then-is_always_raw_char
+returns-then-is_always_raw_char c =
     let text = chars c.args.text.now in
     let after = chars c.args.after.now in
     let is = c.requires in
     record {
       some_raw_ends = tt;
-      none_raw_continues = without_more is_raw_char cdata_end text after c.args.first is (no_section text after c.args.first is (c.if-is_inner_content_char.ensures.no_end refl)) (c.if-is_inner_content_char.ensures.inner_is_raw refl);
+      none_raw_continues = without_more is_raw_char cdata_end text after c.args.first is (no_section text after c.args.first is (c.if-is_always_raw_char.ensures.no_end refl)) (c.if-is_always_raw_char.ensures.inner_is_raw refl);
     }
 
 pub returns-in-Some : goal.returns-in-Some

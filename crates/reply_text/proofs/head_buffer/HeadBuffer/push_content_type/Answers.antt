@@ -1,5 +1,6 @@
 use Rattle.std.proofs.Common.{◌≡◌, append_assoc, ◌∙◌}
-use Rattle.reply_text.specs.ReplyHeads.{media_line, media_type}
+use Rattle.reply_text.specs.ReplyHeads.{media_line}
+use Rattle.reply_text.specs.MediaTypes.{media_type}
 use Rattle.reply_text.proofs.head_buffer.HeadBuffer.push_content_type.Goals as goal
 
 pub returns-clause-appends_bytes : goal.returns-clause-appends_bytes

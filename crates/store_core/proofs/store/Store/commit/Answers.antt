@@ -12,7 +12,7 @@ apply_to-created-requires-clause-fits c =
     let p = c.prepared.inside in
     let room : SpareCapacity = record { documents = spare s.documents; services = spare s.services; trees = unshared_flags s.documents.entries } in
     let seen : PreparedChange = record { doc = p.doc; note = p.note; step = p.step; leaves = p.leaves; enters = p.enters; total = p.total } in
-    may-step s.documents.entries s.services.entries s.last s.total room c.args.self.now seen c.args.prepared c.self.view_is c.prepared.view_is c.self.invariant c.requires refl
+    may-step s.documents.entries s.services.entries s.limits s.last s.total room c.args.self.now seen c.args.prepared c.self.view_is c.prepared.view_is c.self.invariant c.requires refl
 
 pub invariant_of-self : goal.invariant_of-self
 invariant_of-self c =
@@ -20,7 +20,7 @@ invariant_of-self c =
     let p = c.prepared.inside in
     let room : SpareCapacity = record { documents = spare s.documents; services = spare s.services; trees = unshared_flags s.documents.entries } in
     let seen : PreparedChange = record { doc = p.doc; note = p.note; step = p.step; leaves = p.leaves; enters = p.enters; total = p.total } in
-    still-storing s.documents.entries s.services.entries s.last s.total room c.args.self.now seen c.args.prepared c.self.view_is c.prepared.view_is c.self.invariant c.requires
+    still-storing s.documents.entries s.services.entries s.limits s.last s.total room c.args.self.now seen c.args.prepared c.self.view_is c.prepared.view_is c.self.invariant c.requires
     c.release_addresses.new.registry.entries c.register_addresses.new.registry.entries c.apply_to-created.new.documents.entries c.apply_to-created.result c.next-number.result c.as_slice.result.now c.into_vec.result.items c.next-number.ensures.tag_after c.apply_to-created.ensures.takes_step c.as_slice.ensures.exact c.into_vec.ensures.same_items
     c.release_addresses.ensures.frees_addresses c.register_addresses.ensures.registers_these
 
@@ -30,6 +30,6 @@ returns-clause-holds_change c =
     let p = c.prepared.inside in
     let room : SpareCapacity = record { documents = spare s.documents; services = spare s.services; trees = unshared_flags s.documents.entries } in
     let seen : PreparedChange = record { doc = p.doc; note = p.note; step = p.step; leaves = p.leaves; enters = p.enters; total = p.total } in
-    holds-next s.documents.entries s.services.entries s.last s.total room c.args.self.now seen c.args.prepared c.self.view_is c.prepared.view_is c.self.invariant c.requires
+    holds-next s.documents.entries s.services.entries s.limits s.last s.total room c.args.self.now seen c.args.prepared c.self.view_is c.prepared.view_is c.self.invariant c.requires
     c.release_addresses.new.registry.entries c.register_addresses.new.registry.entries c.apply_to-created.new.documents.entries c.apply_to-created.result c.next-number.result c.as_slice.result.now c.into_vec.result.items c.next-number.ensures.tag_after c.apply_to-created.ensures.takes_step c.as_slice.ensures.exact c.into_vec.ensures.same_items
     c.release_addresses.ensures.frees_addresses c.register_addresses.ensures.registers_these

@@ -37,7 +37,7 @@ returns-clause-within_levels c =
     let doc = c.args.doc.now in
     let there : Some c.in_ok-entry.entry.now ≡ lookup (same_id doc) es = rw c.in_ok-entry.was at c.find_entry.ensures.exact in
     subst (λ (t : Tree). height t ≤ 64) (sym c.root.ensures.exact)
-    (low-entry es c.self.inside.services.entries c.self.inside.last c.self.inside.total doc c.in_ok-entry.entry.now c.self.invariant (sym there))
+    (low-entry es c.self.inside.services.entries c.self.inside.limits c.self.inside.last c.self.inside.total doc c.in_ok-entry.entry.now c.self.invariant (sym there))
 
 pub returns-clause-tree_is_sound : goal.returns-clause-tree_is_sound
 returns-clause-tree_is_sound c =
@@ -45,4 +45,4 @@ returns-clause-tree_is_sound c =
     let doc = c.args.doc.now in
     let there : Some c.in_ok-entry.entry.now ≡ lookup (same_id doc) es = rw c.in_ok-entry.was at c.find_entry.ensures.exact in
     subst (λ (t : Tree). IsSoundDocumentFor (usage_of doc.auid) t) (sym c.root.ensures.exact)
-    (sound-entry es c.self.inside.services.entries c.self.inside.last c.self.inside.total doc c.in_ok-entry.entry.now c.self.invariant (sym there))
+    (sound-entry es c.self.inside.services.entries c.self.inside.limits c.self.inside.last c.self.inside.total doc c.in_ok-entry.entry.now c.self.invariant (sym there))

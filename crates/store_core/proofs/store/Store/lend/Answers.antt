@@ -17,13 +17,13 @@ pub lend-requires-clause-known_length : goal.lend-requires-clause-known_length
 lend-requires-clause-known_length c =
     let v = c.in-Some.entry.now in
     let there : Some v ≡ lookup (same_id c.args.doc.now) c.self.inside.documents.entries = rw c.in-Some.is at c.find_entry.ensures.exact in
-    len-of c.self.inside.documents.entries c.self.inside.services.entries c.self.inside.last c.self.inside.total c.args.doc.now v c.self.invariant (sym there) ∙ sym (print_len v.tree.root _ refl)
+    len-of c.self.inside.documents.entries c.self.inside.services.entries c.self.inside.limits c.self.inside.last c.self.inside.total c.args.doc.now v c.self.invariant (sym there) ∙ sym (print_len v.tree.root _ refl)
 
 pub lend-requires-clause-within_levels : goal.lend-requires-clause-within_levels
 lend-requires-clause-within_levels c =
     let v = c.in-Some.entry.now in
     let there : Some v ≡ lookup (same_id c.args.doc.now) c.self.inside.documents.entries = rw c.in-Some.is at c.find_entry.ensures.exact in
-    low-entry c.self.inside.documents.entries c.self.inside.services.entries c.self.inside.last c.self.inside.total c.args.doc.now v c.self.invariant (sym there)
+    low-entry c.self.inside.documents.entries c.self.inside.services.entries c.self.inside.limits c.self.inside.last c.self.inside.total c.args.doc.now v c.self.invariant (sym there)
 
 pub returns-in-None : goal.returns-in-None
 returns-in-None c = record {

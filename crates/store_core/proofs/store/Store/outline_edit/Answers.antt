@@ -1,4 +1,4 @@
-use Rattle.std.proofs.Common.{◌≡◌, ℕ, ◌+◌, List, IsSomeAnd, Option, ap, min, refl, subst, sym, ◌∙◌, arith}
+use Rattle.std.proofs.Common.{false, ◌≡◌, ℕ, ◌+◌, List, IsSomeAnd, Option, ap, min, refl, subst, sym, ◌∙◌, arith}
 use Rattle.xml_tree.specs.Tree.{Tree}
 use Rattle.usage_docs.specs.Services.{document_len}
 use Rattle.edit_ops.specs.Changes.{FitsTree, edited}
@@ -9,7 +9,7 @@ use Rattle.store_core.specs.ValidStates.{document_addresses}
 use Rattle.store_core.specs.inner.Addresses.{AreReplacedAt, removed_addresses_of}
 use Rattle.store_core.specs.PreparedChanges.{total_len}
 use Rattle.store_core.proofs.ChangePremises.{asked}
-use Rattle.store_core.proofs.PlanAnswers.{edit-exchanged, exchanged-between, edit-refused, edit-room, edit-unnumbered, some-held}
+use Rattle.store_core.proofs.PlanAnswers.{edit-exchanged, exchanged-between, edit-refused, edit-unnumbered, is-short, some-held}
 use Rattle.store_core.proofs.store.Store.outline_edit.Goals as goal
 
 pub document_len_after-len-requires-clause-fits : goal.document_len_after-len-requires-clause-fits
@@ -71,7 +71,7 @@ returns-clause-ok_outline c =
     c.in_ok-enters.ensures.ok in
     let told = subst (λ (us : List (List ℕ)). AreReplacedAt c.first_added_number-first.result (document_addresses doc.auid h.0.tree) c.in_ok-leaves.leaves us (document_addresses doc.auid tree)) (sym c.as_slice.ensures.exact) exchanged in
     let free = sym (c.refusal_of_edit.ensures.first_refusal h.0 tree c.in_ok-leaves.leaves h.1 counts told) ∙ c.in_default.is in
-    let room = edit-room content doc tree free in
+    let short = is-short content doc false tree free in
     let others = c.total_without-others.result in
     let whole = subst (λ (o : Option StoredDocument). IsSomeAnd o (λ x. others + document_len x.tree ≡ total_len content)) h.1 c.total_without-others.ensures.completes_total in
     record {
@@ -80,8 +80,8 @@ returns-clause-ok_outline c =
       number = c.in-Some-next_number.ensures.some_is_free.0;
       put = c.measure_put-put.ensures.counts_element;
       print = c.measure_put-put.ensures.prints_document;
-      len = omega (arith, counts, room.1);
-      total = omega (arith, room.0, room.1, whole, ap document_len h.2, c.total_without-others.ensures.exact, counts, c.saturating_add-total.ensures);
+      len = omega (arith, counts, short);
+      total = omega (arith, short, c.total_without-others.ensures.is_small, whole, ap document_len h.2, c.total_without-others.ensures.exact, counts, c.saturating_add-total.ensures);
       addresses =
           exchanged-between c.first_added_number-first.result (document_addresses doc.auid h.0.tree) (document_addresses doc.auid v.tree.root) c.in_ok-leaves.leaves c.in_ok-enters.enters (document_addresses doc.auid tree)
           (sym (ap (λ (t : Tree). document_addresses doc.auid t) h.2)) exchanged;

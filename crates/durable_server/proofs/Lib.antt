@@ -1,0 +1,4 @@
+pub mod KeptSteps
+pub mod LogNumbers
+pub mod ReadRequests
+pub mod Steps

@@ -1,0 +1,3 @@
+pub mod DurableMachines
+pub mod KeptStates
+pub mod inner
