@@ -235,10 +235,9 @@ class Keep:
 
 
 class Lent:
-    """GETs of what is stored, of each of which every request for memory from one on is refused. One
-    is answered 503 as long as those that read the request are among them; they are small, and as
-    many for a long document as for a short one. After them memory isn't needed: the reply is the
-    one that is due, from a print that is kept or from a tree that has none."""
+    """GETs of what is stored, of each of which every request for more than `above` bytes is refused
+    from one on. Smaller ones read the request and its target; the reply needs no more, and is the
+    one that is due: from a print that is kept, or from a tree that has none."""
 
     name = "lent"
     is_one = False
@@ -257,27 +256,18 @@ class Lent:
 
     def prepare(self, refusing):
         with self.started(refusing) as server:
-            counts, self.due = zip(*(self.ask_wholly(refusing, server, it) for it in requests.LENT))
+            self.due = [server.wire.ask(it) for it in requests.LENT]
         need(all(it.status == 200 for it in self.due), "not found")
-        need(len(set(counts)) == 1, f"requests for memory, by document: {counts}")
-
-    def ask_wholly(self, refusing, server, request):
-        """How many requests for memory a GET makes where large ones are refused; and its answer."""
-        before = refusing.made
-        with refusing.refused_from(1, self.above):
-            reply = server.wire.ask(request)
-        return refusing.made - before, reply
 
     def outcome(self, refusing):
         with self.started(refusing) as server:
             replies = [self.ask(refusing, server, it) for it in requests.LENT]
         for number, (reply, due) in enumerate(zip(replies, self.due), 1):
-            need(bytes_of(reply) in (bytes_of(due), NO_MEMORY), f"GET {number}: {reply.head}")
-        return "503" if any(it.status == 503 for it in replies) else "served"
+            need(reply == due, f"the answer to GET {number} isn't due: {reply.head}")
+        return "served"
 
-    @staticmethod
-    def ask(refusing, server, request):
-        with refusing.refused_from(refusing.number):
+    def ask(self, refusing, server, request):
+        with refusing.refused_from(refusing.number, self.above):
             return server.wire.ask(request)
 
 
