@@ -8,12 +8,12 @@ use Rattle.hall_serve.specs.Seats.{MatchesSeats, SeatState, seat_at}
 use Rattle.hall_serve.specs.ServedHalls.{AnswersKnocks, HasHallStop, HasServed, MakesTurns, ServesOn}
 use Rattle.hall_serve.specs.declared.serve.HallSummary.{HallSummary}
 use Rattle.hall_serve.proofs.ServedInOrder.{matches_at_first, served_at_first}
+use Rattle.host_status.specs.HostSteps.{HostStep}
 use Rattle.http_serve.specs.ReplyBytes.{StepsInBytes}
 use Rattle.store_core.specs.Contents.{Represents, StoreContents, first_contents_within}
 use Rattle.store_core.specs.State.{State, first_state_within}
 use Rattle.store_core.specs.ValidStates.{AreCountable, IsValidState}
 use Rattle.store_core.proofs.KeptAfter.{kept-first-within}
-use Rattle.xcap_machine.specs.Machine.{ValidStep}
 use Rattle.xcap_machine.specs.ServerStates.{ServerState}
 use Rattle.xml_names.specs.Limits.{u64_max}
 use Rattle.xcap_app.specs.ErrorMessages.{WritesMessage}
@@ -65,7 +65,7 @@ module _ {W : Type 0} (Keeps : List Edit → W → W → Type 0) where
       → listening ≡ with_hall_address old.hall arguments.address → PassedInHall served listening new.hall seats → WritesMessage (listening_line arguments.address) old.errors new.errors
       → ((m : State) (all : List (Exchange Edit)) → IsValidState m → Represents before.content m → HasServed listening free all
       → (next : State) × IsValidState next × Represents after.content next × (after.root ≡ arguments.root)
-      × ServesOn (StepsInBytes (ValidStep arguments.root)) Keeps all served.memory_failures (record { machine = m; hall = listening; seats = free; watchers = old.watchers }) (record { machine = next; hall = new.hall; seats = seats; watchers = new.watchers }))
+      × ServesOn (StepsInBytes (HostStep arguments.root)) Keeps all served.memory_failures (record { machine = m; hall = listening; seats = free; watchers = old.watchers }) (record { machine = next; hall = new.hall; seats = seats; watchers = new.watchers }))
       → ((made : ℕ) × MakesTurns Keeps (length listening.connections + u64_max) made (record { machine = before; hall = listening; seats = free; watchers = old.watchers }) (record { machine = after; hall = new.hall; seats = seats; watchers = new.watchers }))
       → HostsAddress Keeps arguments served old new
   hosted arguments served before after free seats listening old new positive countable about is_new many all_free number none listens passed told serves turns =
@@ -84,7 +84,7 @@ module _ {W : Type 0} (Keeps : List Edit → W → W → Type 0) where
         same_number = number;
         in_turns = in_turns arguments before after s.0 free seats listening old new (is_server_of before arguments.root begun about stands) (is_server_of after arguments.root s.0 s.3 s.2) listens empty turns;
         seats_match = passed.seats_match;
-        serves = subst (λ (l : HallState). ServesOn (StepsInBytes (ValidStep arguments.root)) Keeps [] served.memory_failures (record { machine = begun; hall = l; seats = free; watchers = old.watchers })
+        serves = subst (λ (l : HallState). ServesOn (StepsInBytes (HostStep arguments.root)) Keeps [] served.memory_failures (record { machine = begun; hall = l; seats = free; watchers = old.watchers })
             (record { machine = s.0; hall = new.hall; seats = seats; watchers = new.watchers })) listens s.4;
         knocks = subst (λ (l : HallState). AnswersKnocks l new.hall) listens passed.knocks;
         connections =

@@ -7,11 +7,11 @@ use Rattle.hall_serve.specs.ServedHalls.{AnswersKnocks, HasHallStop, MakesTurns,
 use Rattle.hall_serve.specs.declared.serve.HallStop.{HallStop}
 use Rattle.hall_serve.specs.declared.serve.HallStop.TheVariants.{HallFailed}
 use Rattle.hall_serve.specs.declared.serve.HallSummary.{HallSummary}
+use Rattle.host_status.specs.HostSteps.{HostStep}
 use Rattle.http_serve.specs.ReplyBytes.{StepsInBytes}
 use Rattle.store_core.specs.Contents.{contents_of}
 use Rattle.store_core.specs.ValidStates.{IsValidState}
 use Rattle.store_core.specs.State.{State, first_state_within}
-use Rattle.xcap_machine.specs.Machine.{ValidStep}
 use Rattle.xcap_machine.specs.ServerStates.{ServerState}
 use Rattle.xml_names.specs.Limits.{u64_max}
 use Rattle.xcap_app.specs.ErrorMessages.{WritesMessage}
@@ -71,7 +71,8 @@ module _ {W : Type 0} (Keeps : List Edit → W → W → Type 0) where
   -- The hall listens at the address, which was told on the stream for errors, and the connections
   -- that came were served, as many at once as there are seats, by the machine of this root from the
   -- state on that has no documents, this first number and the limits of the options, through valid
-  -- states; the watchers were notified of the changes.
+  -- states, but for requests for the status, which are answered from the state (`HostStep`); the
+  -- watchers were notified of the changes.
   pub record HostsAddress (arguments : HostArguments) (served : HallSummary)
       (old new : HostState W) : Type 0 where
     pub state : State
@@ -84,7 +85,7 @@ module _ {W : Type 0} (Keeps : List Edit → W → W → Type 0) where
     pub same_number : length seats ≡ length free
     pub in_turns : HostsInTurns arguments free seats state old new
     pub seats_match : MatchesSeats new.hall seats
-    pub serves : ServesOn (StepsInBytes (ValidStep arguments.root)) Keeps [] served.memory_failures
+    pub serves : ServesOn (StepsInBytes (HostStep arguments.root)) Keeps [] served.memory_failures
         (record {
           machine = first_state_within arguments.options.limits arguments.first;
           hall = with_hall_address old.hall arguments.address;

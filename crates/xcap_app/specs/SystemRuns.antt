@@ -6,6 +6,7 @@ use Rattle.halls.specs.HallState.{connection_at}
 use Rattle.hall_serve.specs.Exchanges.{AreExchanges, Exchange, edits, exchanges_on}
 use Rattle.hall_serve.specs.Seats.{SeatState, seat_at}
 use Rattle.hall_serve.specs.ServedConnections.{IsServed}
+use Rattle.host_status.specs.HostSteps.{HostStep}
 use Rattle.store_core.specs.State.{State, first_state, first_state_within}
 use Rattle.store_core.specs.ValidStates.{IsValidState}
 use Rattle.http_wire.specs.declared.request.Request.{Request}
@@ -98,15 +99,16 @@ module _ {W : Type 0} (Keeps : List Edit → W → W → Type 0) where
 
   -- On all connections of the hall the machine of this root answered, in one order of all
   -- exchanges, from the state without documents, with the limits of the options and this first
-  -- number, on, through valid states. The bytes given on each connection begin with the items of
-  -- its exchanges, and the bytes taken are its replies, as far as they were written. The watchers
-  -- were notified of exactly the changes that it made, in order. The connections were served in
-  -- turns, at as many seats as the options say, all of them free before.
+  -- number, on, through valid states; but requests for the status were answered from the state
+  -- (`HostStep`). The bytes given on each connection begin with the items of its exchanges, and the
+  -- bytes taken are its replies, as far as they were written. The watchers were notified of exactly
+  -- the changes that it made, in order. The connections were served in turns, at as many seats as
+  -- the options say, all of them free before.
   pub record AnswersHall (arguments : HostArguments) (old new : RunState W) : Type 0 where
     pub state : State
     pub kept : IsValidState state
     pub exchanges : List (Exchange Edit)
-    pub steps : AreExchanges (StepsInBytes (ValidStep arguments.root))
+    pub steps : AreExchanges (StepsInBytes (HostStep arguments.root))
         (first_state_within arguments.options.limits arguments.first) exchanges state
     pub each : (n : ℕ) → n < length new.hall.connections
         → IsServed (connection_at new.hall n) (exchanges_on n exchanges)

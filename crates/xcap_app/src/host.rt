@@ -12,10 +12,10 @@ use crate::messages::write_message;
 use edit_ops::Edit;
 use hall_serve::{HallStop, Seats};
 use halls::Hall;
+use host_status::{StatusServer, serve_hall};
 use std::alloc::{AllocError, Global};
 use watchers::Watchers;
 use xcap_io::{Failed, Line, Sink};
-use xcap_server::{Server, serve_hall};
 use xcap_uri::Root;
 
 fn make_listening_line(alloc: Global, address: &str) -> Result<String, AllocError>
@@ -30,7 +30,7 @@ fn make_listening_line(alloc: Global, address: &str) -> Result<String, AllocErro
 // Listens at the address, writes the line, and serves the connections that come by this server,
 // which has no documents.
 fn host_at<H: Hall, E: Sink, W: Watchers<Edit>>(
-    server: &mut Server,
+    server: &mut StatusServer,
     seats: &mut Seats,
     address: &str,
     line: &str,
@@ -111,7 +111,7 @@ fn host_with_seats<H: Hall, E: Sink, W: Watchers<Edit>>(
           watchers = watchers.new;
         }) }
 {
-    let Ok(mut server) = Server::within(alloc, root, first, options.limits) else {
+    let Ok(mut server) = StatusServer::within(alloc, root, first, options.limits) else {
         return Exit::OutOfMemory;
     };
     let exit = host_at(&mut server, seats, address, line, hall, errors, watchers);

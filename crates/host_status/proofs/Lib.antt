@@ -1,0 +1,3 @@
+pub mod HostSimulations
+pub mod StatusAnswers
+pub mod StatusLines

@@ -1,0 +1,3 @@
+pub mod HostSteps
+pub mod StatusTexts
+pub mod inner
